@@ -1,0 +1,6 @@
+-- The theory, from choices and sums up.
+pub mod Choice
+pub mod Sum
+pub mod Tests
+pub mod Tab
+pub mod Bits

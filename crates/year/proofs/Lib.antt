@@ -1,0 +1,4 @@
+-- Laws about a year's definitions, for the proofs here and above.
+pub mod SoundLaws
+pub mod DoorLaws
+pub mod SumLaws

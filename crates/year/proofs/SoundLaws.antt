@@ -1,0 +1,110 @@
+-- The test of soundness and the record of facts say the same.
+use Prim.Native.Nat.{ℕ, _+_, _*_, _/_, _^_, _≤_, _<_}
+use mathlib.Core.Bool.{Bool, true, false, _&&_}
+use mathlib.Core.Path.{_≡_, refl, sym, ap, _∙_}
+use native.Mathlib.Omega.{arith}
+use native.Mathlib.Nat.{div-lt-iff-lt-mul, one-mul, div-eq-of-lt}
+use native.Mathlib.Decide.{decLt}
+use lib.ListN.{length}
+use lib.Dec.{eqb, leb, ltb}
+use lib.Pow.{pow-pos}
+use borrow.Author.Tests.{lt-ltb, le-ltb, leb-true, eqb-true, le-leb, eq-eqb}
+use Rattle.theory.specs.Tests.{all, all-at, all-of, and-true, and-of}
+use Rattle.year.specs.Year.{termAt, courseAt, zeroTerm, zeroCourse, termOf, courseOf}
+use Rattle.year.specs.Sound.{termSound, courseSound, termBlank, courseBlank, termGood, courseGood, shaped, isSound, TermSound, CourseSound, Sound}
+use Rattle.year.specs.declared.Term.{Term}
+use Rattle.year.specs.declared.Course.{Course}
+use Rattle.year.specs.declared.Year.{Year}
+
+-- ---- a term and a course are their numbers
+
+pub term-is : (t : Term) (a b d e : ℕ) → t .low .0 ≡ a → t .high .0 ≡ b → t .least .0 ≡ d → t .most .0 ≡ e → t ≡ termOf a b d e
+term-is t a b d e p q r s = λ i. record { low = record { 0 = p i }; high = record { 0 = q i }; least = record { 0 = r i }; most = record { 0 = s i } }
+
+pub course-is : (c : Course) (w l : ℕ) → c .weight .0 ≡ w → c .list ≡ l → c ≡ courseOf w l
+course-is c w l p q = λ i. record { weight = record { 0 = p i }; list = q i }
+
+-- ---- from the test to the facts
+
+pub term-sound-of : (t : Term) → termSound t ≡ true → TermSound t
+term-sound-of t e =
+    let p = and-true (leb (t .low .0) (t .high .0) && leb (t .high .0) 64000 && leb (t .least .0) (t .most .0)) (leb (t .most .0) 64) e in
+    let q = and-true (leb (t .low .0) (t .high .0) && leb (t .high .0) 64000) (leb (t .least .0) (t .most .0)) (p .0) in
+    let r = and-true (leb (t .low .0) (t .high .0)) (leb (t .high .0) 64000) (q .0) in
+    record { credits-ordered = leb-true _ _ (r .0); credits-most = leb-true _ _ (r .1); count-ordered = leb-true _ _ (q .1); count-most = leb-true _ _ (p .1) }
+
+pub course-sound-of : (c : Course) (n : ℕ) → courseSound c n ≡ true → CourseSound c n
+course-sound-of c n e =
+    let p = and-true (leb 1 (c .weight .0) && leb (c .weight .0) 1000 && leb 1 (c .list)) (eqb (c .list / 2 ^ n) 0) e in
+    let q = and-true (leb 1 (c .weight .0) && leb (c .weight .0) 1000) (leb 1 (c .list)) (p .0) in
+    let r = and-true (leb 1 (c .weight .0)) (leb (c .weight .0) 1000) (q .0) in
+    record { weight-least = leb-true _ _ (r .0); weight-most = leb-true _ _ (r .1); list-some = leb-true _ _ (q .1); list-within = within (p .1) }
+  where
+    within : eqb (c .list / 2 ^ n) 0 ≡ true → c .list < 2 ^ n
+    within z =
+        let h : c .list / 2 ^ n < 1 = omega (arith, eqb-true (c .list / 2 ^ n) 0 z) in
+        rw one-mul at (div-lt-iff-lt-mul (pow-pos n) .0 h)
+
+term-blank-of : (t : Term) → termBlank t ≡ true → t ≡ zeroTerm
+term-blank-of t e =
+    let p = and-true (eqb (t .low .0) 0 && eqb (t .high .0) 0 && eqb (t .least .0) 0) (eqb (t .most .0) 0) e in
+    let q = and-true (eqb (t .low .0) 0 && eqb (t .high .0) 0) (eqb (t .least .0) 0) (p .0) in
+    let r = and-true (eqb (t .low .0) 0) (eqb (t .high .0) 0) (q .0) in
+    term-is t 0 0 0 0 (eqb-true _ _ (r .0)) (eqb-true _ _ (r .1)) (eqb-true _ _ (q .1)) (eqb-true _ _ (p .1))
+
+course-blank-of : (c : Course) → courseBlank c ≡ true → c ≡ zeroCourse
+course-blank-of c e =
+    let p = and-true (eqb (c .weight .0) 0) (eqb (c .list) 0) e in
+    course-is c 0 0 (eqb-true _ _ (p .0)) (eqb-true _ _ (p .1))
+
+pub sound-of : (y : Year) → isSound y ≡ true → Sound y
+unfolding isSound
+sound-of y e =
+    let p = and-true (leb 1 (y .terms) && leb (y .terms) 16 && leb (y .courses) 64 && shaped y && all 16 (termGood y)) (all 64 (courseGood y)) e in
+    let q = and-true (leb 1 (y .terms) && leb (y .terms) 16 && leb (y .courses) 64 && shaped y) (all 16 (termGood y)) (p .0) in
+    let r = and-true (leb 1 (y .terms) && leb (y .terms) 16 && leb (y .courses) 64) (shaped y) (q .0) in
+    let s = and-true (leb 1 (y .terms) && leb (y .terms) 16) (leb (y .courses) 64) (r .0) in
+    let t = and-true (leb 1 (y .terms)) (leb (y .terms) 16) (s .0) in
+    let u = and-true (eqb (length (y .term)) 16) (eqb (length (y .course)) 64) (r .1) in
+    let most : y .terms ≤ 16 = leb-true _ _ (t .1) in
+    let few : y .courses ≤ 64 = leb-true _ _ (s .1) in
+    record {
+      terms-least = leb-true _ _ (t .0);
+      terms-most = most;
+      courses-most = few;
+      term-length = eqb-true _ _ (u .0);
+      course-length = eqb-true _ _ (u .1);
+      term-sound = λ j l. term-sound-of (termAt y j) (rw (lt-ltb _ _ l) at (all-at 16 (termGood y) (q .1) j (omega arith)));
+      course-sound = λ i l. course-sound-of (courseAt y i) (y .terms) (rw (lt-ltb _ _ l) at (all-at 64 (courseGood y) (p .1) i (omega arith)));
+      term-blank = λ j l m. term-blank-of (termAt y j) (rw (le-ltb _ _ l) at (all-at 16 (termGood y) (q .1) j m));
+      course-blank = λ i l m. course-blank-of (courseAt y i) (rw (le-ltb _ _ l) at (all-at 64 (courseGood y) (p .1) i m));
+    }
+
+-- ---- and back
+
+term-sound-to : (t : Term) → TermSound t → termSound t ≡ true
+term-sound-to t h = simp (le-leb _ _ (h .credits-ordered), le-leb _ _ (h .credits-most), le-leb _ _ (h .count-ordered), le-leb _ _ (h .count-most))
+
+course-sound-to : (c : Course) (n : ℕ) → CourseSound c n → courseSound c n ≡ true
+course-sound-to c n h =
+    simp (le-leb _ _ (h .weight-least), le-leb _ _ (h .weight-most), le-leb _ _ (h .list-some), eq-eqb _ _ (div-eq-of-lt (h .list-within)))
+
+pub sound-to : (y : Year) → Sound y → isSound y ≡ true
+unfolding isSound
+sound-to y s =
+    simp (le-leb _ _ (s .terms-least), le-leb _ _ (s .terms-most), le-leb _ _ (s .courses-most), eq-eqb _ _ (s .term-length), eq-eqb _ _ (s .course-length))
+    (and-of (all 16 (termGood y)) (all 64 (courseGood y))
+    (all-of 16 (termGood y) (λ j l. term j l (decLt j (y .terms))))
+    (all-of 64 (courseGood y) (λ i l. course i l (decLt i (y .courses)))))
+  where
+    term : (j : ℕ) → j < 16 → Dec (j < y .terms) → termGood y j ≡ true
+    term j l (yes m) = simp (lt-ltb _ _ m) (term-sound-to (termAt y j) (s .term-sound j m))
+    term j l (no n) =
+        let m : y .terms ≤ j = omega (arith, n) in
+        simp (le-ltb _ _ m, s .term-blank j m l)
+
+    course : (i : ℕ) → i < 64 → Dec (i < y .courses) → courseGood y i ≡ true
+    course i l (yes m) = simp (lt-ltb _ _ m) (course-sound-to (courseAt y i) (y .terms) (s .course-sound i m))
+    course i l (no n) =
+        let m : y .courses ≤ i = omega (arith, n) in
+        simp (le-ltb _ _ m, s .course-blank i m l)

@@ -1,0 +1,9 @@
+-- What a year means: read these first, in this order.
+pub mod Year
+pub mod Sound
+pub mod Sums
+pub mod Tight
+pub mod Narrow
+pub mod Imbalance
+pub mod Plans
+pub mod Numbers

@@ -1,0 +1,62 @@
+// The two doors: a year is altered by replacing one term's bounds or one course's list, and in no other way.
+use crate::Course;
+use crate::Term;
+use crate::Year;
+ghost use mathlib.Core.Path.{_≡_};
+ghost use mathlib.Core.Bool.{true};
+ghost use Prim.Native.Nat.{_<_, _^_};
+ghost use Rattle.year.specs.Year.{courseAt, lists, withTerm, withList, placed, struck};
+
+// The list of term j alone.
+pub fn power(j: usize) -> u16
+    requires { ⌜ j < 16 ⌝ }
+    ensures { λ r. ⌜ r ≡ 2 ^ j ⌝ }
+{
+    1u16 << j
+}
+
+pub fn with_term(y: Year, j: usize, t: Term) -> Year
+    requires { ⌜ j < 16 ⌝ }
+    ensures { λ r. ⌜ r ≡ withTerm y j t ⌝ }
+{
+    let mut z = y;
+    z.term[j] = t;
+    z
+}
+
+pub fn with_list(y: Year, i: usize, list: u16) -> Year
+    requires { ⌜ i < 64 ⌝ }
+    ensures { λ r. ⌜ r ≡ withList y i list ⌝ }
+{
+    let mut z = y;
+    z.course[i].list = list;
+    z
+}
+
+// Course i in term j alone.
+pub fn placed(y: Year, i: usize, j: usize) -> Year
+    requires { ⌜ i < 64 ⌝ }
+    requires { ⌜ j < 16 ⌝ }
+    ensures { λ r. ⌜ r ≡ placed y i j ⌝ }
+{
+    with_list(y, i, power(j))
+}
+
+// Course i, which lists term j, without it.
+pub fn struck(y: Year, i: usize, j: usize) -> Year
+    requires { ⌜ i < 64 ⌝ }
+    requires { ⌜ j < 16 ⌝ }
+    requires { ⌜ lists (courseAt y i) j ≡ true ⌝ }
+    ensures { λ r. ⌜ r ≡ struck y i j ⌝ }
+{
+    let c = y.course[i];
+    with_list(y, i, c.list - power(j))
+}
+
+// Term j is on the course's list.
+pub fn lists(c: Course, j: usize) -> bool
+    requires { ⌜ j < 16 ⌝ }
+    ensures { λ r. ⌜ r ≡ lists c j ⌝ }
+{
+    (c.list >> j) % 2 == 1
+}

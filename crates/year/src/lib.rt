@@ -1,0 +1,112 @@
+// What a year is: its terms, its courses, its limits; what is sound; the sums; the narrowings; the imbalance.
+pub mod bounds;
+pub mod doors;
+mod measure;
+mod narrow;
+pub mod sound;
+pub mod totals;
+
+ghost use mathlib.Core.Path.{_≡_};
+ghost use Rattle.year.specs.Year.{emptyYear};
+
+// A number of credits. Never compared with a number of courses.
+pub struct Credits(pub u32);
+
+// A number of courses.
+pub struct Courses(pub u32);
+
+// A term's bounds: credits from `low` to `high`, and a count of courses from `least` to `most`.
+pub struct Term {
+    pub low: Credits,
+    pub high: Credits,
+    pub least: Courses,
+    pub most: Courses,
+}
+
+// A course with its weight and its list of terms: bit j of the list says that term j is listed.
+pub struct Course {
+    pub weight: Credits,
+    pub list: u16,
+}
+
+// A year of `terms` terms and `courses` courses. Entries past the last are zero in a sound year.
+pub struct Year {
+    pub terms: usize,
+    pub courses: usize,
+    pub term: [Term; Year::TERMS],
+    pub course: [Course; Year::COURSES],
+}
+
+// The four sums of a term: the credits fixed in it (p), those fixed or open (P), the number fixed and the number open.
+pub struct Sums {
+    pub fixed: Credits,
+    pub possible: Credits,
+    pub placed: Courses,
+    pub free: Courses,
+}
+
+// A term after its bounds were made tighter: whether one moved, and whether a pair crossed.
+pub struct Tight {
+    pub term: Term,
+    pub altered: bool,
+    pub crossed: bool,
+}
+
+// How a narrowing ended: done, or refused by 8, 10, 11 or 12.
+pub enum Narrowing {
+    Done,
+    Unsound,
+    Missing,
+    Outside,
+    Crossing,
+}
+
+pub struct Narrowed {
+    pub answer: Narrowing,
+    pub year: Year,
+}
+
+// The imbalance of a settled year, or refusal 8 or 14.
+pub enum Measured {
+    Imbalance(u64),
+    Unsound,
+    Unsettled,
+}
+
+impl Year {
+    // The largest year.
+    pub const TERMS: usize = 16;
+
+    pub const COURSES: usize = 64;
+
+    // The heaviest course, and the largest bounds.
+    pub const WEIGHT: Credits = Credits(1000);
+
+    pub const CREDITS: Credits = Credits(64000);
+
+    pub const COUNT: Courses = Courses(64);
+
+    // The year of one term, all bounds 0, with no course.
+    pub fn empty() -> Year
+        ensures { λ r. ⌜ r ≡ emptyYear ⌝ }
+    {
+        let t = Term {
+            low: Credits(0),
+            high: Credits(0),
+            least: Courses(0),
+            most: Courses(0),
+        };
+        let c = Course {
+            weight: Credits(0),
+            list: 0,
+        };
+        let term = [t; Year::TERMS];
+        let course = [c; Year::COURSES];
+        Year {
+            terms: 1,
+            courses: 0,
+            term: term,
+            course: course,
+        }
+    }
+}

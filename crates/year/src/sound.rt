@@ -1,0 +1,99 @@
+// Soundness of a year value, entry by entry.
+use crate::Course;
+use crate::Term;
+use crate::Year;
+ghost use mathlib.Core.Path.{_≡_};
+ghost use Prim.Native.Nat.{_≤_, _<_};
+ghost use lib.Dec.{ltb};
+ghost use Rattle.theory.specs.Choice.{choose};
+ghost use Rattle.theory.specs.Tests.{all};
+ghost use Rattle.year.specs.Sound.{termSound, courseSound, termBlank, courseBlank, termGood, courseGood, isSound};
+
+fn term_sound(t: Term) -> bool
+    ensures { λ r. ⌜ r ≡ termSound t ⌝ }
+{
+    let credits = Year::CREDITS;
+    let count = Year::COUNT;
+    (t.low.0 <= t.high.0)
+        & (t.high.0 <= credits.0)
+        & (t.least.0 <= t.most.0)
+        & (t.most.0 <= count.0)
+}
+
+fn term_blank(t: Term) -> bool
+    ensures { λ r. ⌜ r ≡ termBlank t ⌝ }
+{
+    (t.low.0 == 0) & (t.high.0 == 0) & (t.least.0 == 0) & (t.most.0 == 0)
+}
+
+fn course_sound(c: Course, terms: usize) -> bool
+    requires { ⌜ terms ≤ 16 ⌝ }
+    ensures { λ r. ⌜ r ≡ courseSound c terms ⌝ }
+{
+    let weight = Year::WEIGHT;
+    (1 <= c.weight.0) & (c.weight.0 <= weight.0) & (1 <= c.list) & ((c.list as u32) >> terms == 0)
+}
+
+fn course_blank(c: Course) -> bool
+    ensures { λ r. ⌜ r ≡ courseBlank c ⌝ }
+{
+    (c.weight.0 == 0) & (c.list == 0)
+}
+
+fn term_good(t: Term, j: usize, terms: usize) -> bool
+    ensures { λ r. ⌜ r ≡ choose (ltb j terms) (termSound t) (termBlank t) ⌝ }
+{
+    if j < terms {
+        term_sound(t)
+    } else {
+        term_blank(t)
+    }
+}
+
+fn course_good(c: Course, i: usize, courses: usize, terms: usize) -> bool
+    requires { ⌜ terms ≤ 16 ⌝ }
+    ensures { λ r. ⌜ r ≡ choose (ltb i courses) (courseSound c terms) (courseBlank c) ⌝ }
+{
+    if i < courses {
+        course_sound(c, terms)
+    } else {
+        course_blank(c)
+    }
+}
+
+fn terms_good(y: Year) -> bool
+    ensures { λ r. ⌜ r ≡ all 16 (termGood y) ⌝ }
+{
+    let mut good = true;
+    for j in 0..Year::TERMS {
+        good = good & term_good(y.term[j], j, y.terms);
+    }
+    good
+}
+
+fn courses_good(y: Year) -> bool
+    requires { ⌜ y .terms ≤ 16 ⌝ }
+    ensures { λ r. ⌜ r ≡ all 64 (courseGood y) ⌝ }
+{
+    let mut good = true;
+    for i in 0..Year::COURSES {
+        good = good & course_good(y.course[i], i, y.courses, y.terms);
+    }
+    good
+}
+
+// The year value is sound.
+pub fn is_sound(y: Year) -> bool
+    ensures { λ r. ⌜ r ≡ isSound y ⌝ }
+{
+    if y.terms < 1 {
+        return false;
+    }
+    if Year::TERMS < y.terms {
+        return false;
+    }
+    if Year::COURSES < y.courses {
+        return false;
+    }
+    terms_good(y) & courses_good(y)
+}

@@ -1,0 +1,132 @@
+// The sums of a term: p, P, the number fixed and the number open, in one pass over the courses.
+use crate::Course;
+use crate::Courses;
+use crate::Credits;
+use crate::Sums;
+use crate::Year;
+use crate::doors;
+ghost use mathlib.Core.Path.{_≡_};
+ghost use mathlib.Core.Bool.{not};
+ghost use Prim.Native.Nat.{_+_, _≤_, _<_};
+ghost use Rattle.theory.specs.Sum.{pick};
+ghost use Rattle.theory.specs.Tab.{tab};
+ghost use Rattle.year.specs.Year.{isFixed, isOpen};
+ghost use Rattle.year.specs.Sound.{Sound};
+ghost use Rattle.year.specs.Sums.{sumsAt, isPlaced, allPlaced, allCredits, noSums, sumsWith};
+
+// Term j is the course's only one.
+pub fn is_fixed(c: Course, j: usize) -> bool
+    requires { ⌜ j < 16 ⌝ }
+    ensures { λ r. ⌜ r ≡ isFixed c j ⌝ }
+{
+    c.list == doors::power(j)
+}
+
+// The course lists term j and some other term.
+pub fn is_open(c: Course, j: usize) -> bool
+    requires { ⌜ j < 16 ⌝ }
+    ensures { λ r. ⌜ r ≡ isOpen c j ⌝ }
+{
+    doors::lists(c, j) & !is_fixed(c, j)
+}
+
+fn nothing() -> Sums
+    ensures { λ r. ⌜ r ≡ noSums ⌝ }
+{
+    Sums {
+        fixed: Credits(0),
+        possible: Credits(0),
+        placed: Courses(0),
+        free: Courses(0),
+    }
+}
+
+// The sums of term j with one course more.
+fn with_course(s: Sums, c: Course, j: usize) -> Sums
+    requires { ⌜ j < 16 ⌝ }
+    requires { ⌜ (c .weight .0 ≤ 1000) × (s .possible .0 ≤ 64000) × (s .placed .0 ≤ 64) × (s .free .0 ≤ 64) × (s .fixed .0 ≤ s .possible .0) ⌝ }
+    ensures { λ r. ⌜ r ≡ sumsWith s c j ⌝ }
+{
+    let w = c.weight.0;
+    let fixed = s.fixed;
+    let placed = s.placed;
+    let free = s.free;
+    if is_fixed(c, j) {
+        return Sums {
+            fixed: Credits(s.fixed.0 + w),
+            possible: Credits(s.possible.0 + w),
+            placed: Courses(s.placed.0 + 1),
+            free: free,
+        };
+    }
+    if doors::lists(c, j) {
+        return Sums {
+            fixed: fixed,
+            possible: Credits(s.possible.0 + w),
+            placed: placed,
+            free: Courses(s.free.0 + 1),
+        };
+    }
+    s
+}
+
+// The sums of term j.
+pub fn sums_at(y: Year, j: usize) -> Sums
+    requires { ⌜ Sound y ⌝ }
+    requires { ⌜ j < 16 ⌝ }
+    ensures { λ r. ⌜ r ≡ sumsAt y j ⌝ }
+{
+    let mut s = nothing();
+    for i in 0..y.courses {
+        s = with_course(s, y.course[i], j);
+    }
+    s
+}
+
+// The sums of all sixteen entries; those past the last term are 0.
+pub fn sums_of(y: Year) -> [Sums; 16]
+    requires { ⌜ Sound y ⌝ }
+    ensures { λ r. ⌜ r ≡ tab 16 (sumsAt y) ⌝ }
+{
+    let z = nothing();
+    let mut s = [z; 16];
+    for j in 0..Year::TERMS {
+        s[j] = sums_at(y, j);
+    }
+    s
+}
+
+// The course has one term.
+pub fn is_placed(c: Course) -> bool
+    ensures { λ r. ⌜ r ≡ isPlaced c ⌝ }
+{
+    let mut found = false;
+    for k in 0..Year::TERMS {
+        found = found | is_fixed(c, k);
+    }
+    found
+}
+
+// Every course has one term.
+pub fn all_placed(y: Year) -> bool
+    requires { ⌜ Sound y ⌝ }
+    ensures { λ r. ⌜ r ≡ allPlaced y ⌝ }
+{
+    let mut all = true;
+    for i in 0..y.courses {
+        all = all & is_placed(y.course[i]);
+    }
+    all
+}
+
+// All credits of the year.
+pub fn all_credits(y: Year) -> Credits
+    requires { ⌜ Sound y ⌝ }
+    ensures { λ r. ⌜ r .0 ≡ allCredits y ⌝ }
+{
+    let mut sum: u32 = 0;
+    for i in 0..y.courses {
+        sum += y.course[i].weight.0;
+    }
+    Credits(sum)
+}
