@@ -1,6 +1,6 @@
 -- The six narrowings. Each refuses in the order 8, 10, 11, 12, and a refused one hands back the year it was given.
 use Prim.Native.Nat.{ℕ, _^_}
-use mathlib.Core.Bool.{Bool, true, false, _||_}
+use mathlib.Core.Bool.{Bool, false, _||_}
 use lib.Dec.{eqb, leb, ltb}
 use Rattle.theory.specs.Choice.{choose}
 use Rattle.year.specs.Year.{termAt, courseAt, list, lists, lowCredits, highCredits, lowCount, highCount, withTerm, placed, struck}

@@ -1,6 +1,6 @@
 -- A term's bounds made tighter: raising and lowering never loosen, and a low bound above its high bound is a crossing.
 use Prim.Native.Nat.{ℕ, max, min}
-use mathlib.Core.Bool.{Bool, _||_}
+use mathlib.Core.Bool.{_||_}
 use lib.Dec.{ltb}
 use Rattle.year.specs.Year.{termOf}
 use Rattle.year.specs.declared.Term.{Term}

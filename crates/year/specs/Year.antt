@@ -1,5 +1,5 @@
 -- A year's parts by the paper's names, and the two doors: one term's bounds replaced, one course's list replaced.
-use Prim.Native.Nat.{ℕ, _+_, _-_, _^_}
+use Prim.Native.Nat.{ℕ, _-_, _^_}
 use mathlib.Core.Bool.{Bool, _&&_, not}
 use lib.Dec.{eqb}
 use lib.ListN.{getD, replicate, set}

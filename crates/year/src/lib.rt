@@ -1,8 +1,10 @@
 // What a year is: its terms, its courses, its limits; what is sound; the sums; the narrowings; the imbalance.
+mod bar;
 pub mod bounds;
 pub mod doors;
+mod limits;
 mod measure;
-mod narrow;
+mod place;
 pub mod sound;
 pub mod totals;
 

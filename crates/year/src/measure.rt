@@ -6,15 +6,11 @@ use crate::Year;
 use crate::sound;
 use crate::totals;
 ghost use mathlib.Core.Path.{_≡_};
-ghost use mathlib.Core.Bool.{_&&_};
-ghost use Prim.Native.Nat.{_≤_, _<_};
-ghost use lib.Dec.{leb};
-ghost use lib.ListN.{getD};
 ghost use Rattle.theory.specs.Tab.{tab};
 ghost use Rattle.theory.specs.Tests.{all};
 ghost use Rattle.year.specs.Sound.{Sound};
 ghost use Rattle.year.specs.Sums.{fixedCredits, sumsAt};
-ghost use Rattle.year.specs.Imbalance.{fits, fitsAt, onePlan, largest, smallest, spreadOf, imbalanceOf};
+ghost use Rattle.year.specs.Imbalance.{fits, fitsAt, largest, smallest, imbalanceOf};
 
 // The sums are within the term's bounds.
 fn fits(t: Term, s: Sums) -> bool

@@ -3,7 +3,7 @@ use crate::Course;
 use crate::Term;
 use crate::Year;
 ghost use mathlib.Core.Path.{_≡_};
-ghost use Prim.Native.Nat.{_≤_, _<_};
+ghost use Prim.Native.Nat.{_≤_};
 ghost use lib.Dec.{ltb};
 ghost use Rattle.theory.specs.Choice.{choose};
 ghost use Rattle.theory.specs.Tests.{all};

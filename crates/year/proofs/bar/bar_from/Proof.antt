@@ -4,8 +4,8 @@ use mathlib.Core.Path.{_≡_, sym, _∙_}
 use borrow.Author.Needs.{needs}
 use borrow.Author.Tests.{not-true, not-false, eq-eqb, ne-eqb}
 use Rattle.year.specs.Year.{courseAt, lists}
-use Rattle.year.proofs.narrow.bar_from.Statement.{statement}
-use Rattle.year.proofs.narrow.bar_from.Tie as tie
+use Rattle.year.proofs.bar.bar_from.Statement.{statement}
+use Rattle.year.proofs.bar.bar_from.Tie as tie
 
 -- past the first refusal the term is listed
 listed : (c : tie.Else1) → lists (courseAt (c .before .before .before .args .t1) (c .before .before .before .args .i)) (c .before .before .before .args .j) ≡ true

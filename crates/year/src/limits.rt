@@ -1,4 +1,4 @@
-// The six narrowings: methods on the year by value, each with its answer beside the year. A refused one hands back the year it was given.
+// The four narrowings of bounds: methods on the year by value, each with its answer beside the year. A refused one hands back the year it was given.
 use crate::Courses;
 use crate::Credits;
 use crate::Narrowed;
@@ -10,58 +10,9 @@ use crate::bounds;
 use crate::doors;
 use crate::sound;
 ghost use mathlib.Core.Path.{_≡_};
-ghost use mathlib.Core.Bool.{Bool, false};
 ghost use Prim.Native.Nat.{_<_};
 ghost use Rattle.year.specs.Year.{termAt};
-ghost use Rattle.year.specs.Sound.{Sound};
-ghost use Rattle.year.specs.Narrow.{placeOf, barOf, placing, barring, boundOf, tightened, raiseLowCreditsOf, lowerHighCreditsOf, raiseLowCountOf, lowerHighCountOf};
-
-// Course i of a sound year in term j of it alone.
-fn place_in(y: Year, i: usize, j: usize) -> Narrowed
-    requires { ⌜ Sound y ⌝ }
-    requires { ⌜ i < y .courses ⌝ }
-    requires { ⌜ j < y .terms ⌝ }
-    ensures { λ r. ⌜ r ≡ placing y i j ⌝ }
-{
-    if !doors::lists(y.course[i], j) {
-        return Narrowed {
-            answer: Narrowing::Crossing,
-            year: y,
-        };
-    }
-    let z = doors::placed(y, i, j);
-    Narrowed {
-        answer: Narrowing::Done,
-        year: z,
-    }
-}
-
-// Course i of a sound year without term j of it.
-fn bar_from(y: Year, i: usize, j: usize) -> Narrowed
-    requires { ⌜ Sound y ⌝ }
-    requires { ⌜ i < y .courses ⌝ }
-    requires { ⌜ j < y .terms ⌝ }
-    ensures { λ r. ⌜ r ≡ barring y i j ⌝ }
-{
-    let c = y.course[i];
-    if !doors::lists(c, j) {
-        return Narrowed {
-            answer: Narrowing::Done,
-            year: y,
-        };
-    }
-    if c.list == doors::power(j) {
-        return Narrowed {
-            answer: Narrowing::Crossing,
-            year: y,
-        };
-    }
-    let z = doors::struck(y, i, j);
-    Narrowed {
-        answer: Narrowing::Done,
-        year: z,
-    }
-}
+ghost use Rattle.year.specs.Narrow.{boundOf, tightened, raiseLowCreditsOf, lowerHighCreditsOf, raiseLowCountOf, lowerHighCountOf};
 
 // Term j of the array, or zeros where it has no such entry.
 fn term_or_zero(y: Year, j: usize) -> Term
@@ -129,44 +80,6 @@ fn bound(y: Year, j: usize, outside: bool, w: Tight) -> Narrowed
 }
 
 impl Year {
-    // Places course i in term j: only j is left on its list.
-    pub fn place(mut self, i: usize, j: usize) -> Narrowed
-        ensures { λ r. ⌜ r ≡ placeOf self i j ⌝ }
-    {
-        if !sound::is_sound(self) {
-            return Narrowed {
-                answer: Narrowing::Unsound,
-                year: self,
-            };
-        }
-        if (self.courses <= i) | (self.terms <= j) {
-            return Narrowed {
-                answer: Narrowing::Missing,
-                year: self,
-            };
-        }
-        place_in(self, i, j)
-    }
-
-    // Bars course i from term j.
-    pub fn bar(mut self, i: usize, j: usize) -> Narrowed
-        ensures { λ r. ⌜ r ≡ barOf self i j ⌝ }
-    {
-        if !sound::is_sound(self) {
-            return Narrowed {
-                answer: Narrowing::Unsound,
-                year: self,
-            };
-        }
-        if (self.courses <= i) | (self.terms <= j) {
-            return Narrowed {
-                answer: Narrowing::Missing,
-                year: self,
-            };
-        }
-        bar_from(self, i, j)
-    }
-
     // Raises the low credits of term j to v.
     pub fn raise_low_credits(mut self, j: usize, v: Credits) -> Narrowed
         ensures { λ r. ⌜ r ≡ raiseLowCreditsOf self j (v .0) ⌝ }

@@ -4,8 +4,8 @@ use native.Mathlib.Omega.{arith}
 use lib.ListN.{length, length-map, List·getD-eq-default}
 use borrow.Author.Needs.{needs}
 use Rattle.year.specs.Year.{zeroTerm}
-use Rattle.year.proofs.narrow.term_or_zero.Statement.{statement}
-use Rattle.year.proofs.narrow.term_or_zero.Tie as tie
+use Rattle.year.proofs.limits.term_or_zero.Statement.{statement}
+use Rattle.year.proofs.limits.term_or_zero.Tie as tie
 
 mul-result : tie.Need-mul-result
 mul-result c = search needs

@@ -1,7 +1,7 @@
 -- The three outcomes are the definition's choices.
 use borrow.Author.Needs.{needs}
-use Rattle.year.proofs.narrow.tighten.Statement.{statement}
-use Rattle.year.proofs.narrow.tighten.Tie as tie
+use Rattle.year.proofs.limits.tighten.Statement.{statement}
+use Rattle.year.proofs.limits.tighten.Tie as tie
 
 returns : tie.Need-returns
 returns c = rw (c .if1 .taken)

@@ -2,8 +2,8 @@
 use mathlib.Core.Path.{sym, _∙_}
 use borrow.Author.Needs.{needs}
 use borrow.Author.Tests.{not-true, not-false}
-use Rattle.year.proofs.narrow.place_in.Statement.{statement}
-use Rattle.year.proofs.narrow.place_in.Tie as tie
+use Rattle.year.proofs.place.place_in.Statement.{statement}
+use Rattle.year.proofs.place.place_in.Tie as tie
 
 mul-lists : tie.Need-mul-lists
 mul-lists c = search needs

@@ -6,8 +6,8 @@ use borrow.Author.Needs.{needs}
 use borrow.Author.Tests.{not-true, not-false, le-leb, lt-leb}
 use Rattle.year.specs.Sound.{isSound}
 use Rattle.year.proofs.SoundLaws.{sound-of}
-use Rattle.year.proofs.narrow.bound.Statement.{statement}
-use Rattle.year.proofs.narrow.bound.Tie as tie
+use Rattle.year.proofs.limits.bound.Statement.{statement}
+use Rattle.year.proofs.limits.bound.Tie as tie
 
 -- past the first refusal the year is sound
 sound : (c : tie.Else1) → isSound (c .before .before .args .y) ≡ true
