@@ -7,3 +7,4 @@ pub mod Narrow
 pub mod Imbalance
 pub mod Plans
 pub mod Numbers
+pub mod Examples

@@ -1,0 +1,189 @@
+-- Closed examples, by computation: year E of the paper, and each answer of the narrowings and of the imbalance.
+use Prim.Native.Nat.{ℕ}
+use mathlib.Core.Bool.{true, false}
+use mathlib.Core.List.{_∷_}
+use mathlib.Core.Path.{_≡_, refl}
+use lib.ListN.{replicate}
+use Rattle.theory.specs.Sum.{sum}
+use Rattle.theory.specs.Tests.{all, any}
+use Rattle.year.specs.Year.{termOf, courseOf, zeroTerm, zeroCourse, emptyYear, placed, withList, withTerm}
+use Rattle.year.specs.Sound.{isSound}
+use Rattle.year.specs.Sums.{fixedCredits, fixedCount, isPlaced, allPlaced}
+use Rattle.year.specs.Tight.{creditsWithin, countsWithin}
+use Rattle.year.specs.Narrow.{answered, placeOf, barOf, raiseLowCreditsOf, lowerHighCreditsOf, raiseLowCountOf, lowerHighCountOf}
+use Rattle.year.specs.Imbalance.{largest, smallest, onePlan, spreadOf, imbalanceOf}
+use Rattle.year.specs.declared.Year.{Year}
+use Rattle.year.specs.declared.Narrowing.the-variants.{Done, Unsound, Missing, Outside, Crossing}
+use Rattle.year.specs.declared.Measured.the-variants as measured
+
+-- ---- years
+
+-- year E: credits 0-4 and 0-6, counts 0-3 each; courses of 4, 3 and 2 credits, each listing both terms
+abbrev pub yearE : Year
+yearE = record {
+  terms = 2;
+  courses = 3;
+  term = termOf 0 4 0 3 ∷ termOf 0 6 0 3 ∷ replicate 14 zeroTerm;
+  course = courseOf 4 3 ∷ courseOf 3 3 ∷ courseOf 2 3 ∷ replicate 61 zeroCourse;
+}
+
+-- its course 0 in term 0 alone, and then all three placed: credits 4 and 5
+abbrev pub firstPlaced : Year
+firstPlaced = placed yearE 0 0
+
+abbrev pub settledE : Year
+settledE = placed (placed firstPlaced 1 1) 2 1
+
+-- all in term 0: 9 credits where 4 are allowed
+abbrev pub crowdedE : Year
+crowdedE = placed (placed firstPlaced 1 0) 2 0
+
+-- a course that lists a term which the year lacks
+abbrev pub foreignE : Year
+foreignE = withList yearE 2 7
+
+-- a year of n terms and m courses with every entry filled: each course of weight w lists all sixteen terms, each term has the bounds 0-v and 0-k
+abbrev pub fullYear : ℕ → ℕ → ℕ → ℕ → ℕ → Year
+fullYear n m w v k = record { terms = n; courses = m; term = replicate 16 (termOf 0 v 0 k); course = replicate 64 (courseOf w 65535) }
+
+-- ---- soundness
+
+pub year-e-sound : isSound yearE ≡ true
+unfolding isSound all
+year-e-sound = refl
+
+pub empty-sound : isSound emptyYear ≡ true
+unfolding isSound all
+empty-sound = refl
+
+-- the largest year is sound, and one more of anything is not
+pub largest-sound : isSound (fullYear 16 64 1000 64000 64) ≡ true
+unfolding isSound all
+largest-sound = refl
+
+pub terms-past : isSound (fullYear 17 64 1000 64000 64) ≡ false
+unfolding isSound all
+terms-past = refl
+
+pub courses-past : isSound (fullYear 16 65 1000 64000 64) ≡ false
+unfolding isSound all
+courses-past = refl
+
+pub weight-past : isSound (fullYear 16 64 1001 64000 64) ≡ false
+unfolding isSound all
+weight-past = refl
+
+pub credits-past : isSound (fullYear 16 64 1000 64001 64) ≡ false
+unfolding isSound all
+credits-past = refl
+
+pub count-past : isSound (fullYear 16 64 1000 64000 65) ≡ false
+unfolding isSound all
+count-past = refl
+
+-- no term, and a course of no weight
+pub no-term : isSound (record { terms = 0; courses = 0; term = emptyYear .term; course = emptyYear .course }) ≡ false
+unfolding isSound all
+no-term = refl
+
+pub no-weight : isSound (fullYear 16 64 0 64000 64) ≡ false
+unfolding isSound all
+no-weight = refl
+
+-- an entry past the last term that is not zero
+pub past-the-last : isSound (withTerm yearE 2 (termOf 0 1 0 0)) ≡ false
+unfolding isSound all
+past-the-last = refl
+
+-- ---- placing and barring
+
+pub places : placeOf yearE 0 0 ≡ answered Done firstPlaced
+unfolding placeOf isSound all
+places = refl
+
+pub bars : barOf yearE 0 0 ≡ answered Done (withList yearE 0 2)
+unfolding barOf isSound all
+bars = refl
+
+-- a last term is not barred; a term that is not listed is, and the year is as it was
+pub bars-no-last : barOf firstPlaced 0 0 ≡ answered Crossing firstPlaced
+unfolding barOf isSound all
+bars-no-last = refl
+
+pub bars-unlisted : barOf firstPlaced 0 1 ≡ answered Done firstPlaced
+unfolding barOf isSound all
+bars-unlisted = refl
+
+pub places-no-unlisted : placeOf firstPlaced 0 1 ≡ answered Crossing firstPlaced
+unfolding placeOf isSound all
+places-no-unlisted = refl
+
+pub no-such-course : placeOf yearE 3 0 ≡ answered Missing yearE
+unfolding placeOf isSound all
+no-such-course = refl
+
+pub no-such-term : barOf yearE 0 2 ≡ answered Missing yearE
+unfolding barOf isSound all
+no-such-term = refl
+
+-- an unsound year is refused first
+pub unsound-first : placeOf foreignE 3 0 ≡ answered Unsound foreignE
+unfolding placeOf isSound all
+unsound-first = refl
+
+-- ---- bounds
+
+pub raises : raiseLowCreditsOf yearE 0 4 ≡ answered Done (withTerm yearE 0 (termOf 4 4 0 3))
+unfolding raiseLowCreditsOf creditsWithin isSound all
+raises = refl
+
+pub lowers : lowerHighCountOf yearE 1 0 ≡ answered Done (withTerm yearE 1 (termOf 0 6 0 0))
+unfolding lowerHighCountOf countsWithin isSound all
+lowers = refl
+
+-- no tighter: done, and nothing altered
+pub raises-nothing : raiseLowCountOf yearE 0 0 ≡ answered Done yearE
+unfolding raiseLowCountOf countsWithin isSound all
+raises-nothing = refl
+
+pub lowers-nothing : lowerHighCreditsOf yearE 0 64000 ≡ answered Done yearE
+unfolding lowerHighCreditsOf creditsWithin isSound all
+lowers-nothing = refl
+
+-- a low bound above its high bound
+pub crosses : raiseLowCreditsOf yearE 0 5 ≡ answered Crossing yearE
+unfolding raiseLowCreditsOf creditsWithin isSound all
+crosses = refl
+
+-- a bound outside the sizes; of a term that the year lacks, the term is refused first
+pub outside-credits : lowerHighCreditsOf yearE 0 64001 ≡ answered Outside yearE
+unfolding lowerHighCreditsOf creditsWithin isSound all
+outside-credits = refl
+
+pub outside-count : raiseLowCountOf yearE 0 65 ≡ answered Outside yearE
+unfolding raiseLowCountOf countsWithin isSound all
+outside-count = refl
+
+pub missing-first : raiseLowCountOf yearE 2 65 ≡ answered Missing yearE
+unfolding raiseLowCountOf countsWithin isSound all
+missing-first = refl
+
+-- ---- imbalance
+
+-- credits 4 and 5
+pub imbalance-one : imbalanceOf settledE ≡ measured.Imbalance 1
+unfolding imbalanceOf isSound onePlan spreadOf largest smallest allPlaced isPlaced fixedCredits fixedCount sum all any
+imbalance-one = refl
+
+-- courses with several terms, and one placing that is no plan
+pub unsettled : imbalanceOf yearE ≡ measured.Unsettled
+unfolding imbalanceOf isSound onePlan allPlaced isPlaced fixedCredits fixedCount sum all any
+unsettled = refl
+
+pub no-plan : imbalanceOf crowdedE ≡ measured.Unsettled
+unfolding imbalanceOf isSound onePlan allPlaced isPlaced fixedCredits fixedCount sum all any
+no-plan = refl
+
+pub imbalance-unsound : imbalanceOf foreignE ≡ measured.Unsound
+unfolding imbalanceOf isSound all
+imbalance-unsound = refl
