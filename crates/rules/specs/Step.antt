@@ -35,7 +35,7 @@ abbrev pub outcomeOf : Term → Bool → ℕ → Outcome
 outcomeOf t a r = record { term = t; altered = a; rule = r }
 
 -- the tighter bounds w of term t under rule r; a crossing is no plan, and so is what the rule itself calls one
-abbrev pub outcome : ℕ → Bool → Term → Tight → Outcome
+unfoldable pub outcome : ℕ → Bool → Term → Tight → Outcome
 outcome r fails t w = choose (fails || w .crossed) (outcomeOf t false r) (outcomeOf (w .term) (w .altered) 0)
 
 -- the outcome at term j of the year
