@@ -1,0 +1,2 @@
+-- Laws about rounds in a row.
+pub mod RoundLaws

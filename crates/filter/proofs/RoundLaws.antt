@@ -1,0 +1,41 @@
+-- How rounds go on after n of them. The number that makes the recursion end never runs out: every altering round lowers the measure.
+use Prim.Native.Nat.{ℕ, zero, suc, _+_, _-_, _≤_, _<_}
+use mathlib.Core.Bool.{Bool, true, false}
+use mathlib.Core.Path.{_≡_, refl, sym, ap, _∙_}
+use native.Mathlib.Omega.{arith}
+use lib.Dec.{eqb}
+use Rattle.theory.specs.Sum.{pick}
+use Rattle.year.specs.Sound.{Sound}
+use Rattle.year.specs.declared.Year.{Year}
+use Rattle.rules.specs.Round.{round}
+use Rattle.rules.proofs.Measure.{measure, measure-most}
+use Rattle.rules.proofs.Steps.{whole-round}
+use Rattle.filter.specs.Filter.{filtered, atRest, roundsFrom}
+use Rattle.filter.specs.declared.Answer.the-variants.{NoPlan}
+
+-- what n rounds leave of the paper's 1,025,985
+abbrev pub left : ℕ → ℕ
+left n = 1025985 - n
+
+module _ (y z : Year) (n : ℕ) (few : n ≤ 1025984) where
+  is : left n ≡ suc (1025984 - n)
+  is = omega arith
+
+  next : left (n + 1) ≡ 1025984 - n
+  next = omega arith
+
+  pub dies : eqb (round z .rule) 0 ≡ false → roundsFrom (left n) y z n ≡ filtered (NoPlan (round z .rule) (n + 1)) y
+  unfolding roundsFrom
+  dies d = rw (is, d, roundsFrom)
+
+  pub rests : eqb (round z .rule) 0 ≡ true → round z .altered ≡ false → roundsFrom (left n) y z n ≡ filtered (atRest (round z .year) (n + 1)) (round z .year)
+  unfolding roundsFrom
+  rests d a = rw (is, d, a, roundsFrom)
+
+  pub goes-on : eqb (round z .rule) 0 ≡ true → round z .altered ≡ true → roundsFrom (left n) y z n ≡ roundsFrom (left (n + 1)) y (round z .year) (n + 1)
+  unfolding roundsFrom
+  goes-on d a = rw (is, next, d, a, roundsFrom)
+
+-- an altering round leaves less to narrow
+pub round-falls : (z : Year) → Sound z → round z .altered ≡ true → measure (round z .year) < measure z
+round-falls z s a = let w = rw a at (whole-round z s .falls) in omega arith
