@@ -1,5 +1,6 @@
 // Filtering: rounds until one alters nothing, and the answer.
 mod rounds;
+
 use year::Year;
 ghost use mathlib.Core.Path.{_≡_};
 ghost use Rattle.filter.specs.Filter.{filterOf};

@@ -78,10 +78,7 @@ pub fn run(y: Year) -> Filtered
         let z = s.year;
         if !s.altered {
             let a = at_rest(z, n);
-            return Filtered {
-                answer: a,
-                year: z,
-            };
+            return Filtered { answer: a, year: z };
         }
         s.altered = false;
     }
