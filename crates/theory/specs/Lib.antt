@@ -4,3 +4,7 @@ pub mod Sum
 pub mod Tests
 pub mod Tab
 pub mod Bits
+pub mod Load
+pub mod Order
+pub mod Walk
+pub mod Packing

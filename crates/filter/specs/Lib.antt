@@ -1,0 +1,4 @@
+-- Filtering, and what its answers say.
+pub mod Filter
+pub mod Numbers
+pub mod Examples

@@ -1,0 +1,8 @@
+-- The eleven rules of a round, family by family.
+pub mod Step
+pub mod Bounds
+pub mod Lists
+pub mod Spares
+pub mod Packing
+pub mod Round
+pub mod Examples
