@@ -1,0 +1,2 @@
+-- What was promised of the definitions, proved.
+pub mod Kept
