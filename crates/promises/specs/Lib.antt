@@ -1,2 +1,4 @@
 -- What was promised of the definitions, proved.
 pub mod Kept
+pub mod DoorPlans
+pub mod OutcomeKept
