@@ -1,13 +1,13 @@
 -- What the two doors do to the plans of a year: narrowings and rules follow from these.
 use Prim.Native.Nat.{ℕ, _-_, _^_, _≤_, _<_}
-use mathlib.Core.Bool.{Bool, true, false, not, _&&_, true≢false}
+use mathlib.Core.Bool.{true, not, true≢false}
 use mathlib.Core.Logic.{_↔_}
-use mathlib.Core.Path.{_≡_, refl, sym, ap, subst, _∙_}
+use mathlib.Core.Path.{_≡_, sym, ap, _∙_}
 use native.Mathlib.Omega.{arith}
 use native.Mathlib.Decide.{ℕ-discrete}
 use lib.Dec.{eqb}
 use borrow.Author.Tests.{eqb-true, eq-eqb, ne-eqb}
-use Rattle.theory.specs.Sum.{pick, sum, sum-cong}
+use Rattle.theory.specs.Sum.{pick, sum-cong}
 use Rattle.theory.specs.Tests.{and-true, and-of}
 use Rattle.theory.specs.Bits.{has, has-power, has-struck}
 use Rattle.year.specs.Year.{termAt, courseAt, weight, list, lists, withTerm, withList, placed, struck}

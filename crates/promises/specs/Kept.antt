@@ -1,5 +1,4 @@
 -- What a step of the rules is promised to do to the plans of a year.
-use Prim.Native.Nat.{ℕ}
 use mathlib.Core.Path.{_≡_}
 use Rattle.year.specs.Plans.{Placing, Plan}
 use Rattle.year.specs.declared.Year.{Year}

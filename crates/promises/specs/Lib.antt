@@ -2,3 +2,4 @@
 pub mod Kept
 pub mod DoorPlans
 pub mod OutcomeKept
+pub mod Narrowings

@@ -1,11 +1,11 @@
 -- One lemma for all rules on bounds: a rule keeps the plans if every plan is within what it puts, and a plan refutes its no plan.
 use Prim.Native.Nat.{ℕ, _≤_, _<_, min, max}
-use mathlib.Core.Bool.{Bool, true, false, _||_, true≢false}
-use mathlib.Core.Path.{_≡_, refl, sym, ap, ap₂, _∙_}
+use mathlib.Core.Bool.{Bool, false, _||_, true≢false}
+use mathlib.Core.Path.{_≡_, refl, sym, ap₂, _∙_}
 use native.Mathlib.Omega.{arith}
 use lib.Dec.{ltb}
 use borrow.Author.Tests.{le-ltb}
-use Rattle.theory.specs.Choice.{choose, choose-case}
+use Rattle.theory.specs.Choice.{choose-case}
 use Rattle.year.specs.Year.{termAt, lowCredits, highCredits, lowCount, highCount, withTerm}
 use Rattle.year.specs.Tight.{creditsWithin, countsWithin}
 use Rattle.year.specs.Plans.{Placing, creditsIn, countIn, Plan}
@@ -13,7 +13,6 @@ use Rattle.year.specs.Sound.{Sound}
 use Rattle.year.specs.declared.Tight.{Tight}
 use Rattle.year.specs.declared.Year.{Year}
 use Rattle.rules.specs.Step.{outcome, outcomeOf, put}
-use Rattle.rules.specs.declared.Outcome.{Outcome}
 use Rattle.promises.specs.Kept.{Kept}
 use Rattle.promises.specs.DoorPlans.{credits-plans, counts-plans}
 
