@@ -2,4 +2,6 @@
 pub mod Kept
 pub mod DoorPlans
 pub mod OutcomeKept
+pub mod PlanSums
+pub mod BoundsKept
 pub mod Narrowings

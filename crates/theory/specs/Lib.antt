@@ -5,6 +5,7 @@ pub mod Tests
 pub mod Tab
 pub mod Bits
 pub mod Load
+pub mod Counting
 pub mod Order
 pub mod Walk
 pub mod Packing
