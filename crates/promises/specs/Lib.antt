@@ -1,7 +1,10 @@
--- What was promised of the definitions, proved.
+-- The promises.
+pub mod Rounds
 pub mod Kept
 pub mod DoorPlans
 pub mod OutcomeKept
+pub mod KeptOver
 pub mod PlanSums
 pub mod BoundsKept
+pub mod ListsKept
 pub mod Narrowings

@@ -22,6 +22,7 @@ module _ (y : Year) (j r : ℕ) (fails : Bool) (w : Tight) (rule : r ≡ 0 → �
     (none-lost : (p : Placing) → Plan y p → Plan (withTerm y j (w .term)) p)
     (none-new : (p : Placing) → Plan (withTerm y j (w .term)) p → Plan y p) where
   outcome-kept : Kept y (put y j (outcome r fails (termAt y j) w))
+  unfolding outcome
   outcome-kept =
       choose-case (λ o. Kept y (put y j o)) (fails || w .crossed) (outcomeOf (termAt y j) false r) (outcomeOf (w .term) (w .altered) 0)
       (λ e. record {

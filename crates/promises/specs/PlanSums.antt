@@ -15,12 +15,12 @@ use Rattle.year.specs.Plans.{Placing, creditsIn, countIn, Plan}
 use Rattle.year.specs.declared.Course.{Course}
 use Rattle.year.specs.declared.Year.{Year}
 
--- a course fixed in j lists j and no other term
-pub fixed-lists : (c : Course) (j : ℕ) → isFixed c j ≡ true → (k : ℕ) → lists c k ≡ eqb k j
-fixed-lists c j e k = ap (λ l. has l k) (eqb-true (c .list) (2 ^ j) e) ∙ has-power j k
+-- a course fixed in k lists k and no other
+pub fixed-lists : (c : Course) (k l : ℕ) → isFixed c k ≡ true → lists c l ≡ eqb l k
+fixed-lists c k l e = ap (λ x. has x l) (eqb-true (c .list) (2 ^ k) e) ∙ has-power k l
 
 pub fixed-listed : (c : Course) (j : ℕ) → isFixed c j ≡ true → lists c j ≡ true
-fixed-listed c j e = fixed-lists c j e j ∙ eq-eqb j j refl
+fixed-listed c j e = fixed-lists c j j e ∙ eq-eqb j j refl
 
 -- an open course lists the term, and the term alone is not its list
 pub open-facts : (c : Course) (j : ℕ) → isOpen c j ≡ true → (lists c j ≡ true) × (isFixed c j ≡ false)
@@ -31,25 +31,30 @@ open-facts c j e = go (lists c j) (isFixed c j) refl refl e
     go true false a b q = (a, b)
     go false f a b q = absurd (true≢false (sym q))
 
+-- what lists j is fixed there or open there
+halves : (y : Year) (j : ℕ) (w : ℕ → ℕ) → sum (y .courses) (λ i. pick (lists (courseAt y i) j) (w i))
+    ≡ sum (y .courses) (λ i. pick (isFixed (courseAt y i) j) (w i)) + sum (y .courses) (λ i. pick (isOpen (courseAt y i) j) (w i))
+halves y j w = sum-halves (y .courses) (λ i. isFixed (courseAt y i) j) (λ i. lists (courseAt y i) j) w (λ i l. fixed-listed (courseAt y i) j)
+
+pub count-halves : (y : Year) (j : ℕ) → sum (y .courses) (λ i. pick (lists (courseAt y i) j) 1) ≡ fixedCount y j + openCount y j
+unfolding fixedCount openCount
+count-halves y j = halves y j (λ i. 1)
+
 module _ (y : Year) (p : Placing) (plan : Plan y p) (j : ℕ) where
   pub fixed-there : (i : ℕ) → i < y .courses → isFixed (courseAt y i) j ≡ true → p i ≡ j
-  fixed-there i l e = eqb-true (p i) j (sym (fixed-lists (courseAt y i) j e (p i)) ∙ plan .listed i l)
+  fixed-there i l e = eqb-true (p i) j (sym (fixed-lists (courseAt y i) j (p i) e) ∙ plan .listed i l)
 
   there-listed : (i : ℕ) → i < y .courses → p i ≡ j → lists (courseAt y i) j ≡ true
   there-listed i l e = subst (λ k. lists (courseAt y i) k ≡ true) e (plan .listed i l)
 
   -- with the weight 1, the sums are counts
   module _ (w : ℕ → ℕ) where
-    halves : sum (y .courses) (λ i. pick (lists (courseAt y i) j) (w i))
-        ≡ sum (y .courses) (λ i. pick (isFixed (courseAt y i) j) (w i)) + sum (y .courses) (λ i. pick (isOpen (courseAt y i) j) (w i))
-    halves = sum-halves (y .courses) (λ i. isFixed (courseAt y i) j) (λ i. lists (courseAt y i) j) w (λ i l. fixed-listed (courseAt y i) j)
-
     floor : sum (y .courses) (λ i. pick (isFixed (courseAt y i) j) (w i)) ≤ load (y .courses) w p j
     floor = at-least (y .courses) p w j (λ i. isFixed (courseAt y i) j) fixed-there
 
     roof : load (y .courses) w p j
         ≤ sum (y .courses) (λ i. pick (isFixed (courseAt y i) j) (w i)) + sum (y .courses) (λ i. pick (isOpen (courseAt y i) j) (w i))
-    roof = omega (arith, halves, at-most (y .courses) p w j (λ i. lists (courseAt y i) j) there-listed)
+    roof = omega (arith, halves y j w, at-most (y .courses) p w j (λ i. lists (courseAt y i) j) there-listed)
 
     floor-with : (i : ℕ) → i < y .courses → isOpen (courseAt y i) j ≡ true → p i ≡ j
         → sum (y .courses) (λ i. pick (isFixed (courseAt y i) j) (w i)) + w i ≤ load (y .courses) w p j
@@ -59,7 +64,7 @@ module _ (y : Year) (p : Placing) (plan : Plan y p) (j : ℕ) where
         → load (y .courses) w p j + w i
         ≤ sum (y .courses) (λ i. pick (isFixed (courseAt y i) j) (w i)) + sum (y .courses) (λ i. pick (isOpen (courseAt y i) j) (w i))
     roof-without i l o e =
-        omega (arith, halves, at-most-without (y .courses) p w j (λ i. lists (courseAt y i) j) there-listed i l (open-facts (courseAt y i) j o .0) e)
+        omega (arith, halves y j w, at-most-without (y .courses) p w j (λ i. lists (courseAt y i) j) there-listed i l (open-facts (courseAt y i) j o .0) e)
 
   -- ---- credits
 
