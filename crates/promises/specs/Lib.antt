@@ -7,4 +7,5 @@ pub mod KeptOver
 pub mod PlanSums
 pub mod BoundsKept
 pub mod ListsKept
+pub mod PackingKept
 pub mod Narrowings
