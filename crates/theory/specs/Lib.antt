@@ -7,4 +7,8 @@ pub mod Bits
 pub mod Load
 pub mod Order
 pub mod Walk
+pub mod Spare
+pub mod Open
+pub mod Start
+pub mod OrderLaws
 pub mod Packing
