@@ -24,8 +24,8 @@ pub record Begins {S : Type 0} (T : Table S) (n m j : ℕ) (lists fixed : ℕ �
   pub fresh : (k : ℕ) → k < m → R .look s k ≡ spareOf n lists fixed low k
   pub same : (f : ℕ → ℕ) → sumL f L ≡ sum n (λ i. pick (openAt lists fixed i j) (f i))
 
-module _ {S : Type 0} (T : Table S) (n m j : ℕ) (lists fixed : ℕ → ℕ → Bool) (R : Spares T m j (other lists j)) (p : ℕ → ℕ) (L : List ℕ) (s : S)
-    (b : Begins T n m j lists fixed R p L s) (w : ℕ → ℕ) where
+module _ {S : Type 0} {T : Table S} {n m j : ℕ} {lists fixed : ℕ → ℕ → Bool} {R : Spares T m j (other lists j)} {p : ℕ → ℕ} {L : List ℕ} {s : S}
+    (b : Begins T n m j lists fixed R p L s) where
   -- the plan needs nothing beyond the spares
   over-none : over m (other lists j) p (R .look s) L ≤ 0
   unfolding over
@@ -34,16 +34,16 @@ module _ {S : Type 0} (T : Table S) (n m j : ℕ) (lists fixed : ℕ → ℕ →
       (λ k l. omega (arith, b .fresh k l, need-holds n lists fixed p (b .alone) j L (b .same) (b .low) k (b .ins k) (b .fix k) (b .lows k l))))
 
   -- the plan's credits, or its count, from what is fixed and what is marked
-  pub begun : (f : ℕ → ℕ) → fixedSum n fixed f j + dot f L (marks p j L) ≡ load n f p j
-  begun f = omega (arith, load-split n lists fixed p f j (b .ins j) (b .fix j), b .same (λ g. pick (eqb (p g) j) (f g)), dot-marks f p j L)
+  pub begun : (w : ℕ → ℕ) → fixedSum n fixed w j + dot w L (marks p j L) ≡ load n w p j
+  begun w = omega (arith, load-split n lists fixed p w j (b .ins j) (b .fix j), b .same (λ g. pick (eqb (p g) j) (w g)), dot-marks w p j L)
 
-  abbrev pub plan : Against T
-  plan = against-plan T m j (other lists j) R p
+  abbrev against : Against T
+  against = against-plan T m j (other lists j) R p
 
-  pub falling : (U : ℕ) → Down w U L → Falling T plan w (load n one p j) (load n w p j) L s (fixedSum n fixed w j) (fixedSum n fixed one j)
+  pub falling : (w : ℕ → ℕ) (U : ℕ) → Down w U L → Falling T against w (load n one p j) (load n w p j) L s (fixedSum n fixed w j) (fixedSum n fixed one j)
   unfolding against-plan
-  falling U h = record { ms = marks p j L; d = 0; U = U; keeps = (refl, over-none); counts = omega (arith, begun one); order = h; loads = omega (arith, begun w) }
+  falling w U h = record { ms = marks p j L; d = 0; U = U; keeps = (refl, over-none); counts = omega (arith, begun one); order = h; loads = omega (arith, begun w) }
 
-  pub rising : (U : ℕ) → Up w U L → Rising T plan w (load n one p j) (load n w p j) L s (fixedSum n fixed w j) (fixedSum n fixed one j)
+  pub rising : (w : ℕ → ℕ) (U : ℕ) → Up w U L → Rising T against w (load n one p j) (load n w p j) L s (fixedSum n fixed w j) (fixedSum n fixed one j)
   unfolding against-plan
-  rising U h = record { ms = marks p j L; d = 0; U = U; keeps = (refl, over-none); counts = omega (arith, begun one); order = h; loads = omega (arith, begun w) }
+  rising w U h = record { ms = marks p j L; d = 0; U = U; keeps = (refl, over-none); counts = omega (arith, begun one); order = h; loads = omega (arith, begun w) }

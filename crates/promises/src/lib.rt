@@ -1,0 +1,1 @@
+// What was promised: statements and proofs about the definitions, no code.
