@@ -2,10 +2,12 @@
 pub mod Rounds
 pub mod Kept
 pub mod DoorPlans
+pub mod Narrowings
+pub mod Reading
+pub mod PlanSums
 pub mod OutcomeKept
 pub mod KeptOver
-pub mod PlanSums
 pub mod BoundsKept
 pub mod ListsKept
+pub mod SparesKept
 pub mod PackingKept
-pub mod Narrowings

@@ -21,7 +21,8 @@ use Rattle.rules.specs.Step.{live, dead}
 use Rattle.rules.specs.Packing.{burst, room, shares, roundedUp, bursts, rule11}
 use Rattle.promises.specs.Kept.{Kept}
 use Rattle.promises.specs.KeptOver.{kept-rest, kept-dead}
-use Rattle.promises.specs.PlanSums.{fixed-there, credits-floor}
+use Rattle.promises.specs.Reading.{fix}
+use Rattle.promises.specs.PlanSums.{credits-floor}
 
 largest-above : (n : ℕ) (f : ℕ → ℕ) (k : ℕ) → k < n → f k ≤ largest n f
 unfolding largest
@@ -42,7 +43,7 @@ module _ (y : Year) (p : Placing) (plan : Plan y p) (s : Sound y) where
         sum-add (y .courses) (λ i. pick (eqb (p i) k) (pick (not (placedAt y i)) (weight y i))) (fixedWeight y k),
         sum-mono (y .courses) (λ i. pick (eqb (p i) k) (pick (not (placedAt y i)) (weight y i)) + fixedWeight y k i) (λ i. pick (eqb (p i) k) (weight y i))
             (λ i h. point (isFixed (courseAt y i) k) (placedAt y i) (eqb (p i) k) (weight y i)
-            (λ e. any-of 16 (isFixed (courseAt y i)) k (omega (arith, s)) e) (λ e. eq-eqb (p i) k (fixed-there y p plan k i h e))),
+            (λ e. any-of 16 (isFixed (courseAt y i)) k (omega (arith, s)) e) (λ e. eq-eqb (p i) k (fix y p plan k i h e))),
       )
     where
       point : (f o e : Bool) (x : ℕ) → (f ≡ true → o ≡ true) → (f ≡ true → e ≡ true) → pick e (pick (not o) x) + pick f x ≤ pick e x

@@ -1,23 +1,20 @@
 -- A plan against the sums of a term: what is fixed there is in it, and what is in it is fixed or open there.
-use Prim.Native.Nat.{ℕ, _+_, _^_, _≤_, _<_}
+use Prim.Native.Nat.{ℕ, _+_, _≤_, _<_}
 use mathlib.Core.Bool.{Bool, true, false, not, _&&_, true≢false}
-use mathlib.Core.Path.{_≡_, refl, sym, ap, subst, _∙_}
+use mathlib.Core.Path.{_≡_, refl, sym, _∙_}
 use native.Mathlib.Omega.{arith}
-use lib.Dec.{eqb}
-use borrow.Author.Tests.{eqb-true, eq-eqb}
+use borrow.Author.Tests.{eq-eqb}
 use Rattle.theory.specs.Sum.{pick, sum}
-use Rattle.theory.specs.Bits.{has, has-power}
 use Rattle.theory.specs.Load.{load}
 use Rattle.theory.specs.Counting.{at-least, at-least-with, at-most, at-most-without, sum-halves}
-use Rattle.year.specs.Year.{courseAt, weight, list, lists, isFixed, isOpen}
+use Rattle.year.specs.Year.{courseAt, weight, lists, isFixed, isOpen}
 use Rattle.year.specs.Sums.{fixedCredits, openCredits, possibleCredits, fixedCount, openCount}
 use Rattle.year.specs.Plans.{Placing, creditsIn, countIn, Plan}
 use Rattle.year.specs.declared.Course.{Course}
 use Rattle.year.specs.declared.Year.{Year}
+use Rattle.promises.specs.Reading.{fixed-lists, ins, fix}
 
--- a course fixed in k lists k and no other
-pub fixed-lists : (c : Course) (k l : ℕ) → isFixed c k ≡ true → lists c l ≡ eqb l k
-fixed-lists c k l e = ap (λ x. has x l) (eqb-true (c .list) (2 ^ k) e) ∙ has-power k l
+-- ---- a course and a term
 
 pub fixed-listed : (c : Course) (j : ℕ) → isFixed c j ≡ true → lists c j ≡ true
 fixed-listed c j e = fixed-lists c j j e ∙ eq-eqb j j refl
@@ -31,6 +28,8 @@ open-facts c j e = go (lists c j) (isFixed c j) refl refl e
     go true false a b q = (a, b)
     go false f a b q = absurd (true≢false (sym q))
 
+-- ---- a term's sums
+
 -- what lists j is fixed there or open there
 halves : (y : Year) (j : ℕ) (w : ℕ → ℕ) → sum (y .courses) (λ i. pick (lists (courseAt y i) j) (w i))
     ≡ sum (y .courses) (λ i. pick (isFixed (courseAt y i) j) (w i)) + sum (y .courses) (λ i. pick (isOpen (courseAt y i) j) (w i))
@@ -41,30 +40,24 @@ unfolding fixedCount openCount
 count-halves y j = halves y j (λ i. 1)
 
 module _ (y : Year) (p : Placing) (plan : Plan y p) (j : ℕ) where
-  pub fixed-there : (i : ℕ) → i < y .courses → isFixed (courseAt y i) j ≡ true → p i ≡ j
-  fixed-there i l e = eqb-true (p i) j (sym (fixed-lists (courseAt y i) j (p i) e) ∙ plan .listed i l)
-
-  there-listed : (i : ℕ) → i < y .courses → p i ≡ j → lists (courseAt y i) j ≡ true
-  there-listed i l e = subst (λ k. lists (courseAt y i) k ≡ true) e (plan .listed i l)
-
   -- with the weight 1, the sums are counts
   module _ (w : ℕ → ℕ) where
     floor : sum (y .courses) (λ i. pick (isFixed (courseAt y i) j) (w i)) ≤ load (y .courses) w p j
-    floor = at-least (y .courses) p w j (λ i. isFixed (courseAt y i) j) fixed-there
+    floor = at-least (y .courses) p w j (λ i. isFixed (courseAt y i) j) (fix y p plan j)
 
     roof : load (y .courses) w p j
         ≤ sum (y .courses) (λ i. pick (isFixed (courseAt y i) j) (w i)) + sum (y .courses) (λ i. pick (isOpen (courseAt y i) j) (w i))
-    roof = omega (arith, halves y j w, at-most (y .courses) p w j (λ i. lists (courseAt y i) j) there-listed)
+    roof = omega (arith, halves y j w, at-most (y .courses) p w j (λ i. lists (courseAt y i) j) (ins y p plan j))
 
     floor-with : (i : ℕ) → i < y .courses → isOpen (courseAt y i) j ≡ true → p i ≡ j
         → sum (y .courses) (λ i. pick (isFixed (courseAt y i) j) (w i)) + w i ≤ load (y .courses) w p j
-    floor-with i l o e = at-least-with (y .courses) p w j (λ i. isFixed (courseAt y i) j) fixed-there i l (open-facts (courseAt y i) j o .1) e
+    floor-with i l o e = at-least-with (y .courses) p w j (λ i. isFixed (courseAt y i) j) (fix y p plan j) i l (open-facts (courseAt y i) j o .1) e
 
     roof-without : (i : ℕ) → i < y .courses → isOpen (courseAt y i) j ≡ true → (p i ≡ j → ⊥)
         → load (y .courses) w p j + w i
         ≤ sum (y .courses) (λ i. pick (isFixed (courseAt y i) j) (w i)) + sum (y .courses) (λ i. pick (isOpen (courseAt y i) j) (w i))
     roof-without i l o e =
-        omega (arith, halves y j w, at-most-without (y .courses) p w j (λ i. lists (courseAt y i) j) there-listed i l (open-facts (courseAt y i) j o .0) e)
+        omega (arith, halves y j w, at-most-without (y .courses) p w j (λ i. lists (courseAt y i) j) (ins y p plan j) i l (open-facts (courseAt y i) j o .0) e)
 
   -- ---- credits
 

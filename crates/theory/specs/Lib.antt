@@ -8,4 +8,8 @@ pub mod Load
 pub mod Counting
 pub mod Order
 pub mod Walk
+pub mod Spare
+pub mod Open
+pub mod Start
+pub mod OrderLaws
 pub mod Packing
