@@ -11,3 +11,4 @@ pub mod BoundsKept
 pub mod ListsKept
 pub mod SparesKept
 pub mod PackingKept
+pub mod RoundsKept
