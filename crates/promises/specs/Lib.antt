@@ -12,3 +12,5 @@ pub mod ListsKept
 pub mod SparesKept
 pub mod PackingKept
 pub mod RoundsKept
+pub mod OnePlacing
+pub mod SettledPlan

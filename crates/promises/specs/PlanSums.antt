@@ -31,7 +31,7 @@ open-facts c j e = go (lists c j) (isFixed c j) refl refl e
 -- ---- a term's sums
 
 -- what lists j is fixed there or open there
-halves : (y : Year) (j : ℕ) (w : ℕ → ℕ) → sum (y .courses) (λ i. pick (lists (courseAt y i) j) (w i))
+pub halves : (y : Year) (j : ℕ) (w : ℕ → ℕ) → sum (y .courses) (λ i. pick (lists (courseAt y i) j) (w i))
     ≡ sum (y .courses) (λ i. pick (isFixed (courseAt y i) j) (w i)) + sum (y .courses) (λ i. pick (isOpen (courseAt y i) j) (w i))
 halves y j w = sum-halves (y .courses) (λ i. isFixed (courseAt y i) j) (λ i. lists (courseAt y i) j) w (λ i l. fixed-listed (courseAt y i) j)
 
