@@ -7,17 +7,17 @@ use native.Mathlib.Omega.{arith}
 use native.Mathlib.Decide.{ℕ-discrete}
 use lib.Dec.{eqb}
 use borrow.Author.Tests.{eqb-true, eq-eqb, ne-eqb}
-use Rattle.theory.specs.Sum.{pick, sum-cong}
 use Rattle.theory.specs.Tests.{and-true, and-of}
 use Rattle.theory.specs.Bits.{has, has-power, has-struck}
-use Rattle.year.specs.Year.{termAt, courseAt, weight, list, lists, withTerm, withList, placed, struck}
+use Rattle.year.specs.Year.{termAt, courseAt, list, lists, withTerm, withList, placed, struck}
 use Rattle.year.specs.Tight.{creditsWithin, countsWithin}
 use Rattle.year.specs.Plans.{Placing, creditsIn, countIn, Plan}
 use Rattle.year.specs.Sound.{Sound}
 use Rattle.year.specs.declared.Term.{Term}
 use Rattle.year.specs.declared.Course.{Course}
 use Rattle.year.specs.declared.Year.{Year}
-use Rattle.year.proofs.DoorLaws.{term-same, term-other, course-same, course-other, weight-same}
+use Rattle.year.proofs.DoorLaws.{term-same, term-other, course-same, course-other}
+use Rattle.promises.specs.Alike.{alike-list, credits-alike}
 
 -- ---- the bounds of a term
 
@@ -93,9 +93,7 @@ module _ (y : Year) (j a b : ℕ) (p : Placing) (s : Sound y) (l : j < y .terms)
 
 module _ (y : Year) (i l : ℕ) (p : Placing) (s : Sound y) (m : i < y .courses) where
   credits-same : (k : ℕ) → creditsIn (withList y i l) p k ≡ creditsIn y p k
-  credits-same k =
-      sum-cong (y .courses) (λ a. pick (eqb (p a) k) (weight (withList y i l) a)) (λ a. pick (eqb (p a) k) (weight y a))
-      (λ a h. ap (pick (eqb (p a) k)) (weight-same y i l a (omega (arith, s))))
+  credits-same = credits-alike y (withList y i l) p (alike-list y i l s m)
 
   same-course : lists (courseAt (withList y i l) i) (p i) ≡ has l (p i)
   same-course = ap (λ (c : Course). lists c (p i)) (course-same y i l (omega (arith, s)))

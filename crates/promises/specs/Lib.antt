@@ -1,6 +1,7 @@
 -- The promises.
 pub mod Rounds
 pub mod Kept
+pub mod Alike
 pub mod DoorPlans
 pub mod Narrowings
 pub mod Reading
@@ -14,3 +15,4 @@ pub mod PackingKept
 pub mod RoundsKept
 pub mod OnePlacing
 pub mod SettledPlan
+pub mod Sequence

@@ -1,5 +1,5 @@
 -- The six narrowings: which plans a narrowed year has, that it stays sound, what a refusal leaves, and the number of each answer.
-use Prim.Native.Nat.{ℕ, _^_, _≤_, _<_, min, max}
+use Prim.Native.Nat.{ℕ, _-_, _^_, _≤_, _<_, min, max}
 use mathlib.Core.Bool.{Bool, true, false, not, _||_, true≢false}
 use mathlib.Core.Logic.{_↔_}
 use mathlib.Core.Path.{_≡_, refl, sym, ap, _∙_}
@@ -23,6 +23,7 @@ use Rattle.year.specs.declared.Narrowing.the-variants.{Done, Unsound, Missing, 
 use Rattle.year.specs.declared.Narrowed.{Narrowed}
 use Rattle.year.proofs.SoundLaws.{sound-of}
 use Rattle.year.proofs.DoorLaws.{with-term-sound, placed-sound, struck-sound}
+use Rattle.promises.specs.Alike.{Alike, alike-rest, alike-list}
 use Rattle.promises.specs.DoorPlans.{credits-plans, counts-plans, placed-plans, struck-plans}
 
 -- ---- the calls
@@ -86,16 +87,17 @@ numberDue y n = choose (isSound y) (choose (missing y n) 10 (choose (outside n) 
 
 pub record Narrows (y : Year) (n : Narrow) (r : Narrowed) : Type 0 where
   pub stays-sound : Sound y → Sound (r .year)
+  pub alike : Alike y (r .year)
   pub plans : narrowingNumber (r .answer) ≡ 0 → (p : Placing) → Plan (r .year) p ↔ (Plan y p × Meets y n p)
   pub refused : (narrowingNumber (r .answer) ≡ 0 → ⊥) → r .year ≡ y
   pub number : narrowingNumber (r .answer) ≡ numberDue y n
 
 module _ (y : Year) (n : Narrow) where
   refusal : (a : Narrowing) → (narrowingNumber a ≡ 0 → ⊥) → narrowingNumber a ≡ numberDue y n → Narrows y n (answered a y)
-  refusal a ne e = record { stays-sound = λ s. s; plans = λ z p. absurd (ne z); refused = λ q. refl; number = e }
+  refusal a ne e = record { stays-sound = λ s. s; alike = alike-rest y; plans = λ z p. absurd (ne z); refused = λ q. refl; number = e }
 
-  done : (z : Year) → Sound z → ((p : Placing) → Plan z p ↔ (Plan y p × Meets y n p)) → 0 ≡ numberDue y n → Narrows y n (answered Done z)
-  done z s h e = record { stays-sound = λ q. s; plans = λ q p. h p; refused = λ q. absurd (q refl); number = e }
+  done : (z : Year) → Sound z → Alike y z → ((p : Placing) → Plan z p ↔ (Plan y p × Meets y n p)) → 0 ≡ numberDue y n → Narrows y n (answered Done z)
+  done z s a h e = record { stays-sound = λ q. s; alike = a; plans = λ q p. h p; refused = λ q. absurd (q refl); number = e }
 
   -- refusals 8, 10 and 11 are in order: it is left to show what the narrowing does then
   past : (r : Narrowed) → (Sound y → missing y n ≡ false → numberDue y n ≡ choose (crossing y n) 12 0 → Narrows y n r)
@@ -119,8 +121,8 @@ tight-narrows y n j w s l due sound plans still =
     (λ c. refusal y n Crossing (λ z. omega arith) (rw (due, c)))
     (λ c.
     choose-case (Narrows y n) (w .altered) (answered Done (withTerm y j (w .term))) (answered Done y)
-    (λ e. done y n (withTerm y j (w .term)) (with-term-sound y j (w .term) s l (sound c)) plans (rw (due, c)))
-    (λ e. done y n y s (λ p. (λ h. (h, still e p h), λ h. h .0)) (rw (due, c))))
+    (λ e. done y n (withTerm y j (w .term)) (with-term-sound y j (w .term) s l (sound c)) (record { terms-same = refl; courses-same = refl; weight-same = λ i. refl }) plans (rw (due, c)))
+    (λ e. done y n y s (alike-rest y) (λ p. (λ h. (h, still e p h), λ h. h .0)) (rw (due, c))))
 
 same-test : (a b c d : ℕ) → (a < b → c < d) → (c < d → a < b) → ltb a b ≡ ltb c d
 same-test a b c d f g = go (decLt c d)
@@ -233,7 +235,7 @@ module _ (y : Year) (i j : ℕ) where
       (λ s m due.
       let k = named y i j m in
       choose-case (Narrows y (place i j)) (lists (courseAt y i) j) (answered Done (placed y i j)) (answered Crossing y)
-      (λ e. done y (place i j) (placed y i j) (placed-sound y i j s (k .0) (k .1)) (λ p. placed-plans y i j p s (k .0) e) (rw (due, e)))
+      (λ e. done y (place i j) (placed y i j) (placed-sound y i j s (k .0) (k .1)) (alike-list y i (2 ^ j) s (k .0)) (λ p. placed-plans y i j p s (k .0) e) (rw (due, e)))
       (λ e. refusal y (place i j) Crossing (λ z. omega arith) (rw (due, e))))
 
   -- a course that does not list j is not in j, and j alone is not its list
@@ -255,9 +257,9 @@ module _ (y : Year) (i j : ℕ) where
       (λ e.
       choose-case (Narrows y (bar i j)) (eqb (list y i) (2 ^ j)) (answered Crossing y) (answered Done (struck y i j))
       (λ q. refusal y (bar i j) Crossing (λ z. omega arith) (rw (due, q)))
-      (λ q. done y (bar i j) (struck y i j) (struck-sound y i j s (k .0) e (eqb-false (list y i) (2 ^ j) q)) (λ p. struck-plans y i j p s (k .0) e) (rw (due, q))))
+      (λ q. done y (bar i j) (struck y i j) (struck-sound y i j s (k .0) e (eqb-false (list y i) (2 ^ j) q)) (alike-list y i (list y i - 2 ^ j) s (k .0)) (λ p. struck-plans y i j p s (k .0) e) (rw (due, q))))
       (λ e.
-      done y (bar i j) y s
+      done y (bar i j) y s (alike-rest y)
       (λ p. (λ h. (h, λ q. true≢false (sym (h .listed i (k .0)) ∙ ap (lists (courseAt y i)) q ∙ e)), λ h. h .0))
       (rw (due, unlisted e))))
 

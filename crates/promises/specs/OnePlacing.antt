@@ -28,6 +28,7 @@ use Rattle.rules.specs.Round.{bounded, round}
 use Rattle.rules.specs.declared.Step.{Step}
 use Rattle.rules.proofs.Whole.{Whole, whole-rest, whole-next}
 use Rattle.rules.proofs.Steps.{whole-1, whole-2, whole-3, whole-4, whole-5, whole-6, whole-7, whole-8, whole-9, whole-10, whole-11, whole-round}
+use Rattle.promises.specs.Alike.{alike-whole, credits-alike, count-alike}
 use Rattle.promises.specs.DoorPlans.{Holds, plan-of}
 use Rattle.promises.specs.PlanSums.{halves}
 
@@ -76,14 +77,6 @@ module _ (y : Year) (p : Placing) (s : Step) (w : Whole y s) where
       let c = w .sound .course-sound i l in
       has-only (s .year .terms) (list (s .year) i) (p i) (c .list-some) (c .list-within)
       (λ k e. eqb-true k (p i) (sym (has-power (p i) k) ∙ ap (λ x. has x k) (sym (h i (omega (arith, w)))) ∙ w .lists-less i k e))
-
-  pub credits-stay : (k : ℕ) → creditsIn (s .year) p k ≡ creditsIn y p k
-  credits-stay k =
-      ap (λ n. sum n (λ i. pick (eqb (p i) k) (weight (s .year) i))) (w .courses-same)
-      ∙ sum-cong (y .courses) (λ i. pick (eqb (p i) k) (weight (s .year) i)) (λ i. pick (eqb (p i) k) (weight y i)) (λ i l. ap (pick (eqb (p i) k)) (w .weight-same i))
-
-  pub count-stays : (k : ℕ) → countIn (s .year) p k ≡ countIn y p k
-  count-stays k = ap (λ n. sum n (λ i. pick (eqb (p i) k) 1)) (w .courses-same)
 
 -- ---- a rule over the terms, from what is known of each term to what it makes known
 
@@ -181,7 +174,7 @@ module _ (y : Year) (p : Placing) (sound : Sound y) (placed : PlacedBy y p) wher
       (λ s k w l a.
       let q = credits-are (s .year) p (placed-stays y p s w placed) k in
       outcome-makes (s .year) k 1 false (creditsWithin (termAt (s .year) k) (fixedCredits (s .year) k) (possibleCredits (s .year) k)) (CreditsAre (creditsIn y p k)) (w .sound) (omega (arith, w)) (λ e. omega arith)
-      (omega (arith, q .0, q .1, credits-stay y p s w k)))
+      (omega (arith, q .0, q .1, credits-alike y (s .year) p (alike-whole y s w) k)))
 
   made-4 : (s : Step) → Made y credits s → Made y both (overTerms (bounded rule4) s)
   unfolding rule4 countsWithin credits both
@@ -191,7 +184,7 @@ module _ (y : Year) (p : Placing) (sound : Sound y) (placed : PlacedBy y p) wher
         credits .stays (s .year) (bounded rule4 (s .year) k) k (whole-4 (s .year) k (w .sound) (omega (arith, w))) a,
         (let q = counts-are (s .year) p (placed-stays y p s w placed) k in
             outcome-makes (s .year) k 4 false (countsWithin (termAt (s .year) k) (fixedCount (s .year) k) (fixedCount (s .year) k + openCount (s .year) k)) (CountIs (countIn y p k)) (w .sound) (omega (arith, w)) (λ z. omega arith)
-            (omega (arith, q .0, q .1, count-stays y p s w k)) e),
+            (omega (arith, q .0, q .1, count-alike y (s .year) p (alike-whole y s w) k)) e),
       ))
 
   made-round : Made y both (round y)
@@ -228,4 +221,4 @@ module _ (y : Year) (p : Placing) (sound : Sound y) (placed : PlacedBy y p) wher
       bounds : (k : ℕ) → k < z .terms → Holds (termAt z k) (creditsIn z p k) (countIn z p k)
       bounds k l =
           let q = made-round .1 e k (omega (arith, w)) in
-          omega (arith, q .0, q .1, w .sound .term-sound k l, credits-stay y p (round y) w k, count-stays y p (round y) w k)
+          omega (arith, q .0, q .1, w .sound .term-sound k l, credits-alike y z p (alike-whole y (round y) w) k, count-alike y z p (alike-whole y (round y) w) k)
