@@ -15,4 +15,5 @@ pub mod PackingKept
 pub mod RoundsKept
 pub mod OnePlacing
 pub mod SettledPlan
+pub mod ImbalancePlan
 pub mod Sequence

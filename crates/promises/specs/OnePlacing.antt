@@ -69,6 +69,13 @@ module _ (y : Year) (p : Placing) (h : PlacedBy y p) (k : ℕ) where
   unfolding fixedCount openCount
   counts-are = (fixed-sum (λ i. 1), sym (halves y k (λ i. 1)) ∙ listed-sum (λ i. 1))
 
+-- and p stands within the terms and the lists
+pub placed-listed : (y : Year) (p : Placing) → PlacedBy y p → (i : ℕ) → i < y .courses → lists (courseAt y i) (p i) ≡ true
+placed-listed y p h i l = lists-is y p h (p i) i l ∙ eq-eqb (p i) (p i) refl
+
+pub placed-within : (y : Year) (p : Placing) → PlacedBy y p → Sound y → (i : ℕ) → i < y .courses → p i < y .terms
+placed-within y p h s i l = has-below (y .terms) (list y i) (p i) (s .course-sound i l .list-within) (placed-listed y p h i l)
+
 -- ---- rules leave such a year such
 
 module _ (y : Year) (p : Placing) (s : Step) (w : Whole y s) where
@@ -205,7 +212,7 @@ module _ (y : Year) (p : Placing) (sound : Sound y) (placed : PlacedBy y p) wher
   -- the placing is a plan of the year that a round without fault leaves
   pub round-plan : round y .rule ≡ 0 → Plan (round y .year) p
   unfolding both
-  round-plan e = plan-of (round y .year) p (λ i l. place i l .0) (λ i l. place i l .1) (λ k l. bounds k l)
+  round-plan e = plan-of z p (placed-within z p there (w .sound)) (placed-listed z p there) (λ k l. bounds k l)
     where
       z : Year
       z = round y .year
@@ -213,10 +220,8 @@ module _ (y : Year) (p : Placing) (sound : Sound y) (placed : PlacedBy y p) wher
       w : Whole y (round y)
       w = whole-round y sound
 
-      place : (i : ℕ) → i < z .courses → (p i < z .terms) × (lists (courseAt z i) (p i) ≡ true)
-      place i l =
-          let q = lists-is z p (placed-stays y p (round y) w placed) (p i) i l ∙ eq-eqb (p i) (p i) refl in
-          (has-below (z .terms) (list z i) (p i) (w .sound .course-sound i l .list-within) q, q)
+      there : PlacedBy z p
+      there = placed-stays y p (round y) w placed
 
       bounds : (k : ℕ) → k < z .terms → Holds (termAt z k) (creditsIn z p k) (countIn z p k)
       bounds k l =

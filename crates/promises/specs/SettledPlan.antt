@@ -7,7 +7,6 @@ use native.Mathlib.Omega.{arith}
 use borrow.Author.Tests.{eqb-true, eq-eqb}
 use Rattle.theory.specs.Sum.{pick, sum, sum-single}
 use Rattle.theory.specs.Tests.{any-true, any-of, all-at, all-of}
-use Rattle.theory.specs.Bits.{has-below}
 use Rattle.year.specs.Year.{courseAt, list, isFixed}
 use Rattle.year.specs.Sums.{isPlaced, placedAt, allPlaced}
 use Rattle.year.specs.Plans.{Placing, Plan}
@@ -24,7 +23,7 @@ use Rattle.promises.specs.Rounds.{Altering, altering-whole, Ends, no-pla
 use Rattle.promises.specs.Reading.{fixed-lists}
 use Rattle.promises.specs.PlanSums.{fixed-listed}
 use Rattle.promises.specs.RoundsKept.{filter-kept}
-use Rattle.promises.specs.OnePlacing.{PlacedBy, placed-stays, round-plan}
+use Rattle.promises.specs.OnePlacing.{PlacedBy, placed-within, placed-stays, round-plan}
 
 -- ---- that placing
 
@@ -58,8 +57,7 @@ all-placed y p s h =
     all-of (y .courses) (placedAt y)
     (λ i l.
     let fixed : isFixed (courseAt y i) (p i) ≡ true = eq-eqb (list y i) (2 ^ p i) (h i l) in
-    let below = has-below (y .terms) (list y i) (p i) (s .course-sound i l .list-within) (fixed-listed (courseAt y i) (p i) fixed) in
-    any-of 16 (isFixed (courseAt y i)) (p i) (omega (arith, s)) fixed)
+    any-of 16 (isFixed (courseAt y i)) (p i) (omega (arith, s, placed-within y p h s i l)) fixed)
 
 -- ---- filtering
 
