@@ -46,20 +46,20 @@ eqb-sym a b = go (ℕ-discrete a b)
     go (no d) = ne-eqb a b d ∙ sym (ne-eqb b a (λ e. d (sym e)))
 
 module _ (y : Year) (p : Placing) (h : PlacedBy y p) (k : ℕ) where
-  lists-is : (i : ℕ) → i < y .courses → lists (courseAt y i) k ≡ eqb (p i) k
-  lists-is i l = ap (λ x. has x k) (h i l) ∙ has-power (p i) k ∙ eqb-sym k (p i)
+  listed-there : (i : ℕ) → i < y .courses → lists (courseAt y i) k ≡ eqb (p i) k
+  listed-there i l = ap (λ x. has x k) (h i l) ∙ has-power (p i) k ∙ eqb-sym k (p i)
 
-  fixed-is : (i : ℕ) → i < y .courses → isFixed (courseAt y i) k ≡ eqb (p i) k
-  fixed-is i l = ap (λ x. eqb x (2 ^ k)) (h i l) ∙ power-eqb (p i) k
+  fixed-there : (i : ℕ) → i < y .courses → isFixed (courseAt y i) k ≡ eqb (p i) k
+  fixed-there i l = ap (λ x. eqb x (2 ^ k)) (h i l) ∙ power-eqb (p i) k
 
   module _ (w : ℕ → ℕ) where
     fixed-sum : sum (y .courses) (λ i. pick (isFixed (courseAt y i) k) (w i)) ≡ sum (y .courses) (λ i. pick (eqb (p i) k) (w i))
     fixed-sum =
-        sum-cong (y .courses) (λ i. pick (isFixed (courseAt y i) k) (w i)) (λ i. pick (eqb (p i) k) (w i)) (λ i l. ap (λ b. pick b (w i)) (fixed-is i l))
+        sum-cong (y .courses) (λ i. pick (isFixed (courseAt y i) k) (w i)) (λ i. pick (eqb (p i) k) (w i)) (λ i l. ap (λ b. pick b (w i)) (fixed-there i l))
 
     listed-sum : sum (y .courses) (λ i. pick (lists (courseAt y i) k) (w i)) ≡ sum (y .courses) (λ i. pick (eqb (p i) k) (w i))
     listed-sum =
-        sum-cong (y .courses) (λ i. pick (lists (courseAt y i) k) (w i)) (λ i. pick (eqb (p i) k) (w i)) (λ i l. ap (λ b. pick b (w i)) (lists-is i l))
+        sum-cong (y .courses) (λ i. pick (lists (courseAt y i) k) (w i)) (λ i. pick (eqb (p i) k) (w i)) (λ i l. ap (λ b. pick b (w i)) (listed-there i l))
 
   pub credits-are : (fixedCredits y k ≡ creditsIn y p k) × (possibleCredits y k ≡ creditsIn y p k)
   unfolding fixedCredits openCredits
@@ -71,7 +71,7 @@ module _ (y : Year) (p : Placing) (h : PlacedBy y p) (k : ℕ) where
 
 -- and p stands within the terms and the lists
 pub placed-listed : (y : Year) (p : Placing) → PlacedBy y p → (i : ℕ) → i < y .courses → lists (courseAt y i) (p i) ≡ true
-placed-listed y p h i l = lists-is y p h (p i) i l ∙ eq-eqb (p i) (p i) refl
+placed-listed y p h i l = listed-there y p h (p i) i l ∙ eq-eqb (p i) (p i) refl
 
 pub placed-within : (y : Year) (p : Placing) → PlacedBy y p → Sound y → (i : ℕ) → i < y .courses → p i < y .terms
 placed-within y p h s i l = has-below (y .terms) (list y i) (p i) (s .course-sound i l .list-within) (placed-listed y p h i l)
