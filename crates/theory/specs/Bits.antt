@@ -4,10 +4,10 @@ use mathlib.Core.Bool.{Bool, true, false, not, _&&_, true≢false}
 use mathlib.Core.Path.{_≡_, refl, sym, ap, _∙_}
 use native.Mathlib.Omega.{arith}
 use native.Mathlib.Nat.{div-div-eq-div-mul, pow-suc, mul-comm, div-one}
-use native.Mathlib.Decide.{ℕ-discrete}
+use native.Mathlib.Decide.{ℕ-discrete, decLt}
 use lib.Dec.{eqb, eqb·zero-suc, eqb·suc-zero, eqb·suc-suc}
 use lib.Pow.{pow-pos}
-use borrow.Author.Tests.{eqb-true, eqb-false, ne-eqb}
+use borrow.Author.Tests.{eqb-true, eqb-false, eq-eqb, ne-eqb}
 
 -- the list l names term j
 abbrev pub has : ℕ → ℕ → Bool
@@ -106,3 +106,29 @@ power-below j (suc m) h = go (ℕ-discrete j m) (λ q. power-below j m q)
     go : Dec (j ≡ m) → (j < m → 2 ^ j < 2 ^ m) → 2 ^ j < 2 ^ suc m
     go (yes e) ih = rw e (omega (arith, pow-pos m))
     go (no d) ih = omega (arith, ih (omega arith))
+
+-- a list that names j and no other is the list of j alone
+pub has-only : (m l j : ℕ) → 1 ≤ l → l < 2 ^ m → ((k : ℕ) → has l k ≡ true → k ≡ j) → l ≡ 2 ^ j
+has-only m l j a h only = go (decLt (2 ^ j) l)
+  where
+    named : has l j ≡ true
+    named = let r = has-some m l a h in ap (has l) (sym (only (r .0) (r .2))) ∙ r .2
+
+    go : Dec (2 ^ j < l) → l ≡ 2 ^ j
+    go (yes q) =
+        let r = has-some m (l - 2 ^ j) (omega arith) (omega arith) in
+        let b = sym (has-struck l j (r .0) named) ∙ r .2 in
+        absurd (other (has l (r .0)) (eqb (r .0) j) (only (r .0)) (λ e. eq-eqb (r .0) j e) b)
+      where
+        other : {k : ℕ} (x y : Bool) → (x ≡ true → k ≡ j) → (k ≡ j → y ≡ true) → x && not y ≡ true → ⊥
+        other true true f g e = true≢false (sym e)
+        other true false f g e = true≢false (sym (g (f refl)))
+        other false y f g e = true≢false (sym e)
+    go (no d) = omega (arith, has-le l j named)
+
+pub power-eqb : (j k : ℕ) → eqb (2 ^ j) (2 ^ k) ≡ eqb j k
+power-eqb j k = go (ℕ-discrete j k)
+  where
+    go : Dec (j ≡ k) → eqb (2 ^ j) (2 ^ k) ≡ eqb j k
+    go (yes e) = eq-eqb (2 ^ j) (2 ^ k) (ap (λ x. 2 ^ x) e) ∙ sym (eq-eqb j k e)
+    go (no d) = ne-eqb (2 ^ j) (2 ^ k) (λ e. d (eqb-true j k (sym (has-power k j) ∙ ap (λ x. has x j) (sym e) ∙ has-power j j ∙ eq-eqb j j refl))) ∙ sym (ne-eqb j k d)
