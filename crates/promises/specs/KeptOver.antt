@@ -60,9 +60,12 @@ pub record Sized (terms courses : ℕ) (z : Year) : Type 0 where
 pub sized-stays : (terms courses : ℕ) (z : Year) (s : Step) → Sized terms courses z → Whole z s → Sized terms courses (s .year)
 sized-stays terms courses z s a w = record { sound = w .sound; terms-are = w .terms-same ∙ a .terms-are; courses-are = w .courses-same ∙ a .courses-are }
 
+-- what holds of a rule at each term of a sound year
+abbrev pub AtTerms : (Year → Step → Type 0) → (Year → ℕ → Step) → Type 0
+AtTerms P f = (z : Year) (j : ℕ) → Sound z → j < z .terms → P z (f z j)
+
 -- a rule that keeps the plans at each term, and leaves a whole year, keeps them over all terms
-pub kept-terms : (f : Year → ℕ → Step) → ((z : Year) (j : ℕ) → Sound z → j < z .terms → Kept z (f z j)) → ((z : Year) (j : ℕ) → Sound z → j < z .terms → Whole z (f z j))
-    → (y : Year) (s : Step) → Sound (s .year) → Kept y s → Kept y (overTerms f s)
+pub kept-terms : (f : Year → ℕ → Step) → AtTerms Kept f → AtTerms Whole f → (y : Year) (s : Step) → Sound (s .year) → Kept y s → Kept y (overTerms f s)
 kept-terms f kept whole y s sound a =
     kept-over f (Sized (s .year .terms) (s .year .courses)) (s .year .terms) (λ z k i l. kept z k (i .sound) (omega arith))
     (λ z k i l. sized-stays (s .year .terms) (s .year .courses) z (f z k) i (whole z k (i .sound) (omega arith)))

@@ -1,4 +1,4 @@
--- The promises.
+-- The promises. Read Narrowings, RoundsKept, SettledPlan, ImbalancePlan, Sequence and Rounds; the other modules lead up to them.
 pub mod Rounds
 pub mod Kept
 pub mod Alike

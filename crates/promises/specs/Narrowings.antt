@@ -257,7 +257,9 @@ module _ (y : Year) (i j : ℕ) where
       (λ e.
       choose-case (Narrows y (bar i j)) (eqb (list y i) (2 ^ j)) (answered Crossing y) (answered Done (struck y i j))
       (λ q. refusal y (bar i j) Crossing (λ z. omega arith) (rw (due, q)))
-      (λ q. done y (bar i j) (struck y i j) (struck-sound y i j s (k .0) e (eqb-false (list y i) (2 ^ j) q)) (alike-list y i (list y i - 2 ^ j) s (k .0)) (λ p. struck-plans y i j p s (k .0) e) (rw (due, q))))
+      (λ q.
+      done y (bar i j) (struck y i j) (struck-sound y i j s (k .0) e (eqb-false (list y i) (2 ^ j) q)) (alike-list y i (list y i - 2 ^ j) s (k .0))
+      (λ p. struck-plans y i j p s (k .0) e) (rw (due, q))))
       (λ e.
       done y (bar i j) y s (alike-rest y)
       (λ p. (λ h. (h, λ q. true≢false (sym (h .listed i (k .0)) ∙ ap (lists (courseAt y i)) q ∙ e)), λ h. h .0))

@@ -29,6 +29,7 @@ use Rattle.rules.specs.declared.Step.{Step}
 use Rattle.rules.proofs.Whole.{Whole, whole-rest, whole-next}
 use Rattle.rules.proofs.Steps.{whole-1, whole-2, whole-3, whole-4, whole-5, whole-6, whole-7, whole-8, whole-9, whole-10, whole-11, whole-round}
 use Rattle.promises.specs.Alike.{alike-whole, credits-alike, count-alike}
+use Rattle.promises.specs.KeptOver.{AtTerms}
 use Rattle.promises.specs.DoorPlans.{Holds, plan-of}
 use Rattle.promises.specs.PlanSums.{halves}
 
@@ -96,7 +97,7 @@ pub record Known : Type 1 where
 abbrev Made : Year → Known → Step → Type 0
 Made y A s = Whole y s × (s .rule ≡ 0 → (k : ℕ) → k < y .terms → A .of (s .year) k)
 
-module _ (y : Year) (A B : Known) (f : Year → ℕ → Step) (law : (z : Year) (j : ℕ) → Sound z → j < z .terms → Whole z (f z j))
+module _ (y : Year) (A B : Known) (f : Year → ℕ → Step) (law : AtTerms Whole f)
     (makes : (s : Step) (k : ℕ) → Whole y s → k < y .terms → A .of (s .year) k → f (s .year) k .rule ≡ 0 → B .of (f (s .year) k .year) k)
     (s : Step) (known : Made y A s) where
   abbrev After : ℕ → Step → Type 0
@@ -108,10 +109,13 @@ module _ (y : Year) (A B : Known) (f : Year → ℕ → Step) (law : (z : Year) 
   pass (suc m) h =
       let t : Step = overTo f s m in
       let b = pass m (omega arith) in
-      let w = law (t .year) m (b .0 .sound) (omega (arith, b .0)) in
-      (whole-next f y t m (b .0) w, choose-case (After (suc m)) (eqb (t .rule) 0) _ t (λ e r. more m t (b .0) w (b .1 (eqb-true (t .rule) 0 e)) (omega arith) r) (λ e r. absurd (eqb-false (t .rule) 0 e r)))
+      let w = law (t .year) m (b .0 .sound) (omega (arith, b .0)) in (
+        whole-next f y t m (b .0) w,
+        choose-case (After (suc m)) (eqb (t .rule) 0) _ t (λ e r. more m t (b .0) w (b .1 (eqb-true (t .rule) 0 e)) (omega arith) r) (λ e r. absurd (eqb-false (t .rule) 0 e r)),
+      )
     where
-      more : (m : ℕ) (t : Step) → Whole y t → Whole (t .year) (f (t .year) m) → ((k : ℕ) → k < y .terms → A .of (t .year) k) × ((k : ℕ) → k < m → B .of (t .year) k)
+      more : (m : ℕ) (t : Step) → Whole y t → Whole (t .year) (f (t .year) m)
+          → ((k : ℕ) → k < y .terms → A .of (t .year) k) × ((k : ℕ) → k < m → B .of (t .year) k)
           → m < y .terms → f (t .year) m .rule ≡ 0
           → ((k : ℕ) → k < y .terms → A .of (f (t .year) m .year) k) × ((k : ℕ) → k < suc m → B .of (f (t .year) m .year) k)
       more m t v w c l r = (λ k q. A .stays (t .year) (f (t .year) m) k w (c .0 k q), λ k q. go k q (ℕ-discrete k m))
@@ -126,7 +130,7 @@ module _ (y : Year) (A B : Known) (f : Year → ℕ → Step) (law : (z : Year) 
       (b .0, λ e k l. b .1 e .1 k (omega (arith, known .0)))
 
 -- a rule of which nothing is used but that it leaves a whole year
-made-still : (y : Year) (A : Known) (f : Year → ℕ → Step) (law : (z : Year) (j : ℕ) → Sound z → j < z .terms → Whole z (f z j)) (s : Step) → Made y A s → Made y A (overTerms f s)
+made-still : (y : Year) (A : Known) (f : Year → ℕ → Step) (law : AtTerms Whole f) (s : Step) → Made y A s → Made y A (overTerms f s)
 made-still y A f law =
     made-terms y A A f law (λ s k w l a e. A .stays (s .year) (f (s .year) k) k (law (s .year) k (w .sound) (omega (arith, w))) a)
 
@@ -180,7 +184,8 @@ module _ (y : Year) (p : Placing) (sound : Sound y) (placed : PlacedBy y p) wher
       made-terms y nothing credits (bounded rule1) whole-1
       (λ s k w l a.
       let q = credits-are (s .year) p (placed-stays y p s w placed) k in
-      outcome-makes (s .year) k 1 false (creditsWithin (termAt (s .year) k) (fixedCredits (s .year) k) (possibleCredits (s .year) k)) (CreditsAre (creditsIn y p k)) (w .sound) (omega (arith, w)) (λ e. omega arith)
+      outcome-makes (s .year) k 1 false (creditsWithin (termAt (s .year) k) (fixedCredits (s .year) k) (possibleCredits (s .year) k))
+      (CreditsAre (creditsIn y p k)) (w .sound) (omega (arith, w)) (λ e. omega arith)
       (omega (arith, q .0, q .1, credits-alike y (s .year) p (alike-whole y s w) k)))
 
   made-4 : (s : Step) → Made y credits s → Made y both (overTerms (bounded rule4) s)
@@ -190,7 +195,8 @@ module _ (y : Year) (p : Placing) (sound : Sound y) (placed : PlacedBy y p) wher
       (λ s k w l a e. (
         credits .stays (s .year) (bounded rule4 (s .year) k) k (whole-4 (s .year) k (w .sound) (omega (arith, w))) a,
         (let q = counts-are (s .year) p (placed-stays y p s w placed) k in
-            outcome-makes (s .year) k 4 false (countsWithin (termAt (s .year) k) (fixedCount (s .year) k) (fixedCount (s .year) k + openCount (s .year) k)) (CountIs (countIn y p k)) (w .sound) (omega (arith, w)) (λ z. omega arith)
+            outcome-makes (s .year) k 4 false (countsWithin (termAt (s .year) k) (fixedCount (s .year) k) (fixedCount (s .year) k + openCount (s .year) k))
+            (CountIs (countIn y p k)) (w .sound) (omega (arith, w)) (λ z. omega arith)
             (omega (arith, q .0, q .1, count-alike y (s .year) p (alike-whole y s w) k)) e),
       ))
 

@@ -1,5 +1,5 @@
 -- A round keeps exactly the plans, and so does filtering: it says no plan only where there is none.
-use Prim.Native.Nat.{ℕ, suc, _<_}
+use Prim.Native.Nat.{ℕ, suc}
 use mathlib.Core.Bool.{Bool, true, false}
 use mathlib.Core.Logic.{_↔_}
 use mathlib.Core.Path.{_≡_, refl}
@@ -25,7 +25,7 @@ use Rattle.filter.specs.declared.Answer.the-variants.{Settled, Open, Unsound}
 use Rattle.filter.specs.declared.Filtered.{Filtered}
 use Rattle.promises.specs.Rounds.{Altering, none, more, altering-whole, Ends, no-plan, at-rest, filtering}
 use Rattle.promises.specs.Kept.{Kept}
-use Rattle.promises.specs.KeptOver.{kept-rest, kept-next, kept-terms}
+use Rattle.promises.specs.KeptOver.{kept-rest, kept-next, AtTerms, kept-terms}
 use Rattle.promises.specs.BoundsKept.{rule1-kept, rule2-kept, rule4-kept, rule5-kept}
 use Rattle.promises.specs.ListsKept.{rule3-kept, rule10-kept}
 use Rattle.promises.specs.SparesKept.{rule6-kept, rule7-kept, rule8-kept, rule9-kept}
@@ -37,8 +37,7 @@ use Rattle.promises.specs.PackingKept.{rule11-kept}
 abbrev Good : Year → Step → Type 0
 Good y s = Whole y s × Kept y s
 
-good-terms : (f : Year → ℕ → Step) → ((z : Year) (j : ℕ) → Sound z → j < z .terms → Whole z (f z j)) → ((z : Year) (j : ℕ) → Sound z → j < z .terms → Kept z (f z j))
-    → (y : Year) (s : Step) → Good y s → Good y (overTerms f s)
+good-terms : (f : Year → ℕ → Step) → AtTerms Whole f → AtTerms Kept f → (y : Year) (s : Step) → Good y s → Good y (overTerms f s)
 good-terms f whole kept y s a = (whole-terms f y s whole (a .0), kept-terms f kept whole y s (a .0 .sound) (a .1))
 
 pub round-kept : (y : Year) → Sound y → Kept y (round y)
