@@ -1,1 +1,3 @@
 -- Laws about records.
+pub mod EntryLaws
+pub mod ListLaws
