@@ -1,8 +1,9 @@
 -- A list read record by record: what holds of the blank year and is kept by each record holds of each year that was read.
-use Prim.Native.Nat.{ℕ, zero, suc, _+_, _*_, _≤_, _<_}
+use Prim.Native.Nat.{ℕ, zero, suc, _+_, _-_, _*_, _≤_, _<_}
 use mathlib.Core.List.{List}
 use mathlib.Core.Path.{_≡_, refl, sym, ap, _∙_}
 use native.Mathlib.Numerals.{add-one}
+use native.Mathlib.Nat.{add-zero, add-suc}
 use native.Mathlib.Omega.{arith}
 use native.Mathlib.Decide.{ℕ-discrete}
 use lib.ListN.{length, getD, length-set, length-replicate, getD-replicate}
@@ -12,6 +13,7 @@ use Rattle.year.specs.Sound.{TermSound, CourseSound, Sound}
 use Rattle.year.specs.declared.Term.{Term}
 use Rattle.year.specs.declared.Course.{Course}
 use Rattle.year.specs.declared.Year.{Year}
+use Rattle.records.specs.declared.Fault.{Fault}
 use Rattle.records.specs.declared.Record.{Record}
 use Rattle.records.specs.declared.Record.the-variants.{OfTerm, OfCourse, Faulty}
 use Rattle.records.specs.declared.Reading.{Reading}
@@ -34,6 +36,17 @@ pub read-more : (s : List ℕ) (k : ℕ) (y : Year) → readTo s k ≡ done y �
 unfolding readTo
 read-more s k y e = rw e refl
 
+-- a refusal stays to the end of the list
+refused-on : (s : List ℕ) (k m : ℕ) (f : Fault) (n : ℕ) → readTo s k ≡ refused f n → readTo s (k + m) ≡ refused f n
+unfolding readTo
+refused-on s k zero f n e = rw add-zero e
+refused-on s k (suc m) f n e = rw (add-suc, refused-on s k m f n e) refl
+
+pub refused-stays : (s : List ℕ) (k m : ℕ) (f : Fault) (n : ℕ) → k ≤ m → readTo s k ≡ refused f n → readTo s m ≡ refused f n
+refused-stays s k m f n h e =
+    let is : k + (m - k) ≡ m = omega arith in
+    rw is at (refused-on s k (m - k) f n e)
+
 -- what is done was done before the last record
 done-before : (s : List ℕ) (k : ℕ) (z : Year) → readTo s (suc k) ≡ done z → readTo s k ≡ done (readTo s k .year)
 unfolding readTo
@@ -51,8 +64,8 @@ done-same y z e = ap (λ (r : Received). r .year) e
 
 -- the principle
 module _ (s : List ℕ) (P : ℕ → Year → Type 0) (start : P 0 blankYear)
-  (term : (k : ℕ) (y : Year) (t : Term) → P k y → recordIn s k y ≡ OfTerm t → P (suc k) (addTerm y t))
-  (course : (k : ℕ) (y : Year) (c : Course) → P k y → recordIn s k y ≡ OfCourse c → P (suc k) (addCourse y c)) where
+    (term : (k : ℕ) (y : Year) (t : Term) → P k y → recordIn s k y ≡ OfTerm t → P (suc k) (addTerm y t))
+    (course : (k : ℕ) (y : Year) (c : Course) → P k y → recordIn s k y ≡ OfCourse c → P (suc k) (addCourse y c)) where
   step : (k : ℕ) (y z : Year) (r : Record) → P k y → recordIn s k y ≡ r → taken y k r ≡ done z → P (suc k) z
   step k y z (OfTerm t) p q e = rw (sym (done-same (addTerm y t) z e)) (term k y t p q)
   step k y z (OfCourse c) p q e = rw (sym (done-same (addCourse y c) z e)) (course k y c p q)

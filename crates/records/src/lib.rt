@@ -1,7 +1,7 @@
 // Years as records of 16 bytes: any byte string is read, or refused at its first fault; a sound year is written into a lent buffer.
+mod blocks;
 mod bytes;
 mod entries;
-mod blocks;
 
 use year::Course;
 use year::Courses;

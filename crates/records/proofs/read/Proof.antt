@@ -6,13 +6,35 @@ use Rattle.records.proofs.bad_length.Reads as bad-length-reads
 use Rattle.records.proofs.blank.Reads as blank-reads
 use Rattle.records.proofs.entries.read_record.Reads as read-record-reads
 use Rattle.records.proofs.refused.Reads as refused-reads
+use Prim.Native.Nat.{ℕ, suc, _+_, _*_, _/_, _-_, _≤_, _<_}
+use mathlib.Core.Path.{_≡_, _∙_, ap, sym, refl}
+use mathlib.Core.Logic.{⊎-elim}
+use native.Mathlib.Omega.{arith}
+use native.Mathlib.Numerals.{add-one}
 use borrow.Author.Needs.{needs}
+use lib.ListN.{length}
+use Rattle.records.specs.Reading.{readTo, readList, done, refused, taken}
+use Rattle.records.specs.declared.Record.the-variants.{OfTerm, OfCourse, Faulty}
+use Rattle.records.proofs.EntryLaws.{record-term, record-course}
+use Rattle.records.proofs.ListLaws as law
 
 abbrev Inv-loop : tie.InvT-loop
-Inv-loop s n y₀ k₀ k-end y k = ?
+Inv-loop s n y₀ k₀ k-end y k = (k ≤ n / 16) × (readTo s k ≡ done y)
 
 abbrev μ-loop : tie.MeasureT-loop
-μ-loop s n y₀ k₀ k-end y k = ?
+μ-loop s n y₀ k₀ k-end y k = n / 16 - k
+
+-- the year so far is the front of a sound year
+front : (c : tie.At-loop Inv-loop μ-loop) → law.Front (c .loop .k) (c .loop .y)
+front c = law.read-front (c .before .before .before .before .before .args .s .now) (c .loop .k) (c .loop .y) (c .loop .inv .1)
+
+term-room : (c : tie.After-t Inv-loop μ-loop) → c .before .before .before .before .loop .y .terms < 16
+term-room c =
+    record-term _ _ _ _ (c .t .given .0 .0) (sym (c .before .before .read-record .ensures) ∙ c .t .given .1) .2 .room
+
+course-room : (c : tie.After-c Inv-loop μ-loop) → c .before .before .before .before .loop .y .courses < 64
+course-room c =
+    record-course _ _ _ _ (c .c .given .0 .0) (sym (c .before .before .read-record .ensures) ∙ c .c .given .1) .2 .room
 
 -- src/lib.rt:86:8
 bad-length-requires : tie.Need-bad-length-requires Inv-loop μ-loop
@@ -24,7 +46,8 @@ refused-requires c κs = search needs
 
 -- src/lib.rt:87:9
 returns : tie.Need-returns Inv-loop μ-loop
-returns c = search needs
+unfolding readList
+returns c = c .refused .ensures ∙ simp (sym (c .before .before .bad-length .ensures) ∙ c .before .if1 .taken)
 
 -- src/lib.rt:89:17
 blank-requires : tie.Need-blank-requires Inv-loop μ-loop
@@ -32,7 +55,7 @@ blank-requires c κs = search needs
 
 -- src/lib.rt:90:5
 loop-holds : tie.Need-loop-holds Inv-loop μ-loop
-loop-holds c = search needs
+loop-holds c = (search needs, law.read-zero _ ∙ ap done (sym (c .blank .ensures)))
 
 -- src/lib.rt:91:39
 mul-read-record : tie.Need-mul-read-record Inv-loop μ-loop
@@ -40,7 +63,7 @@ mul-read-record c = search needs
 
 -- src/lib.rt:91:15
 read-record-requires : tie.Need-read-record-requires Inv-loop μ-loop
-read-record-requires c κs = search needs
+read-record-requires c κs = (omega arith, front (c .before) .terms-most)
 
 -- src/lib.rt:92:28
 enum-known-t : tie.Need-enum-known-t Inv-loop μ-loop
@@ -48,15 +71,15 @@ enum-known-t c = search needs
 
 -- src/lib.rt:94:17
 mul-t : tie.Need-mul-t Inv-loop μ-loop
-mul-t c = search needs
+mul-t c = omega (arith, term-room (c .before))
 
 -- src/lib.rt:94:17
 element-set-from-t : tie.Need-element-set-from-t Inv-loop μ-loop
-element-set-from-t c = search needs
+element-set-from-t c = term-room (c .before)
 
 -- src/lib.rt:95:27
 add-y : tie.Need-add-y Inv-loop μ-loop
-add-y c = search needs
+add-y c = omega (arith, term-room (c .before))
 
 -- src/lib.rt:97:30
 enum-known-c : tie.Need-enum-known-c Inv-loop μ-loop
@@ -64,15 +87,15 @@ enum-known-c c = search needs
 
 -- src/lib.rt:99:17
 mul-c : tie.Need-mul-c Inv-loop μ-loop
-mul-c c = search needs
+mul-c c = omega (arith, course-room (c .before))
 
 -- src/lib.rt:99:17
 element-set-from-c : tie.Need-element-set-from-c Inv-loop μ-loop
-element-set-from-c c = search needs
+element-set-from-c c = course-room (c .before)
 
 -- src/lib.rt:100:29
 add-y-2 : tie.Need-add-y-2 Inv-loop μ-loop
-add-y-2 c = search needs
+add-y-2 c = omega (arith, course-room (c .before))
 
 -- src/lib.rt:102:28
 enum-known-f : tie.Need-enum-known-f Inv-loop μ-loop
@@ -84,7 +107,16 @@ refused-requires-2 c κs = search needs
 
 -- src/lib.rt:103:17
 returns-2 : tie.Need-returns-2 Inv-loop μ-loop
-returns-2 c = search needs
+unfolding readList
+returns-2 c =
+    let s = c .before .before .before .before .before .before .before .before .before .before .before .args .s .now in
+    let k = c .before .before .before .before .before .before .loop .k in
+    let y = c .before .before .before .before .before .before .loop .y in
+    let f = c .before .before .f .given .0 .0 in
+    let more : readTo s (suc k) ≡ refused f k =
+    law.read-more s k y (c .before .before .before .before .before .before .loop .inv .1) ∙ ap (taken y k) (sym (c .before .before .before .before .read-record .ensures) ∙ c .before .before .f .given .1) in
+    c .refused2 .ensures
+    ∙ sym (simp (sym (c .before .before .before .before .before .before .before .before .before .bad-length .ensures) ∙ c .before .before .before .before .before .before .before .before .if1 .left) (law.refused-stays s (suc k) (length s / 16) f k (omega (arith, add-one k)) more))
 
 -- src/lib.rt:90:9
 add-k : tie.Need-add-k Inv-loop μ-loop
@@ -96,11 +128,21 @@ loop-less c = search needs
 
 -- src/lib.rt:90:5
 loop-again : tie.Need-loop-again Inv-loop μ-loop
-loop-again c = search needs
+loop-again c =
+    let s = c .before .before .before .before .before .before .before .before .args .s .now in
+    let k = c .before .before .before .loop .k in
+    let y = c .before .before .before .loop .y in
+    let more : readTo s (k + 1) ≡ taken y k (c .before .read-record .result) =
+    ap (readTo s) (add-one k) ∙ law.read-more s k y (c .before .before .before .loop .inv .1) ∙ ap (taken y k) (sym (c .before .read-record .ensures)) in
+    (search needs, ⊎-elim (λ w. more ∙ ap (taken y k) (w .1 .given .1) ∙ ap done (sym (w .3))) (λ w. more ∙ ap (taken y k) (w .1 .given .1) ∙ ap done (sym (w .3))) (c .match .came))
 
 -- src/lib.rt:82:1
 returns-3 : tie.Need-returns-3 Inv-loop μ-loop
-returns-3 c = search needs
+unfolding readList
+returns-3 c =
+    let s = c .before .before .before .before .before .before .args .s .now in
+    let is : c .before .loop .k ≡ length s / 16 = omega arith in
+    sym (simp (sym (c .before .before .before .before .bad-length .ensures) ∙ c .before .before .before .if1 .left) (ap (readTo s) (sym is) ∙ c .before .loop .inv .1))
 
 pub read-spec : {M : Type 1} → statement M
 read-spec =
