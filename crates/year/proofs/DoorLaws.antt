@@ -1,13 +1,13 @@
 -- What a year reads after a door was opened, and that it stays sound.
-use Prim.Native.Nat.{ℕ, _+_, _-_, _^_, _≤_, _<_}
-use mathlib.Core.Bool.{Bool, true, false, not, _&&_}
-use mathlib.Core.Path.{_≡_, refl, sym, ap, _∙_}
+use Prim.Native.Nat.{ℕ, _-_, _^_, _≤_, _<_}
+use mathlib.Core.Bool.{true}
+use mathlib.Core.Path.{_≡_, ap, _∙_}
 use native.Mathlib.Omega.{arith}
-use native.Mathlib.Decide.{ℕ-discrete, decLt}
-use lib.ListN.{length, length-set, set}
-use lib.Seq.{getD-set-same, getD-set-other, set-out}
+use native.Mathlib.Decide.{ℕ-discrete}
+use lib.ListN.{length, length-set}
+use lib.Seq.{getD-set-same, getD-set-other}
 use lib.Pow.{pow-pos}
-use Rattle.theory.specs.Bits.{has, has-le, power-below}
+use Rattle.theory.specs.Bits.{has-le, power-below}
 use Rattle.year.specs.Year.{termAt, courseAt, zeroTerm, zeroCourse, courseOf, weight, list, lists, withTerm, withList, placed, struck}
 use Rattle.year.specs.Sound.{Sound, TermSound, CourseSound}
 use Rattle.year.specs.declared.Term.{Term}

@@ -2,3 +2,4 @@
 pub mod SoundLaws
 pub mod DoorLaws
 pub mod SumLaws
+pub mod SpreadLaws

@@ -112,11 +112,11 @@ pub fn all_placed(y: Year) -> bool
     requires { ⌜ Sound y ⌝ }
     ensures { λ r. ⌜ r ≡ allPlaced y ⌝ }
 {
-    let mut all = true;
+    let mut good = true;
     for i in 0..y.courses {
-        all = all & is_placed(y.course[i]);
+        good = good & is_placed(y.course[i]);
     }
-    all
+    good
 }
 
 // All credits of the year.
@@ -124,9 +124,9 @@ pub fn all_credits(y: Year) -> Credits
     requires { ⌜ Sound y ⌝ }
     ensures { λ r. ⌜ r .0 ≡ allCredits y ⌝ }
 {
-    let mut sum: u32 = 0;
+    let mut total: u32 = 0;
     for i in 0..y.courses {
-        sum += y.course[i].weight.0;
+        total += y.course[i].weight.0;
     }
-    Credits(sum)
+    Credits(total)
 }

@@ -1,0 +1,28 @@
+-- The term is listed, so its power is at most the list, and the difference goes through the door.
+use borrow.Author.Needs.{needs}
+use Rattle.theory.specs.Bits.{has-le}
+use Rattle.year.proofs.doors.struck.Statement.{statement}
+use Rattle.year.proofs.doors.struck.Tie as tie
+
+mul-c : tie.Need-mul-c
+mul-c c = search needs
+
+element-copy-out-c : tie.Need-element-copy-out-c
+element-copy-out-c c = search needs
+
+power-requires : tie.Need-power-requires
+power-requires c κs = search needs
+
+sub-with-list : tie.Need-sub-with-list
+sub-with-list c = rw (c .before .power .ensures) (has-le _ _ (c .before .before .before .pre .1 .1))
+
+with-list-requires : tie.Need-with-list-requires
+with-list-requires c κs = search needs
+
+returns : tie.Need-returns
+returns c = rw (← c .before .before .power .ensures) (c .with-list .ensures)
+
+pub struck-spec : {M : Type 1} → statement M
+struck-spec =
+    tie.close
+    (tie.spec mul-c element-copy-out-c power-requires sub-with-list with-list-requires returns)

@@ -1,0 +1,59 @@
+-- The loop's invariant: the flag says whether the first i entries are good.
+use Prim.Native.Nat.{_≤_, _-_}
+use mathlib.Core.Path.{_≡_, sym, ap, ap₂, _∙_}
+use mathlib.Core.Bool.{_&&_}
+use native.Mathlib.Omega.{arith}
+use borrow.Author.Needs.{needs}
+use Rattle.theory.specs.Tests.{all, all-more}
+use Rattle.year.specs.Sound.{courseGood}
+use Rattle.year.proofs.sound.courses_good.Statement.{statement}
+use Rattle.year.proofs.sound.courses_good.Tie as tie
+
+abbrev Inv-loop : tie.InvT-loop
+Inv-loop y good₀ i₀ good i = (i ≤ 64) × (good ≡ all i (courseGood y))
+
+abbrev μ-loop : tie.MeasureT-loop
+μ-loop y good₀ i₀ good i = 64 - i
+
+loop-holds : tie.Need-loop-holds Inv-loop μ-loop
+unfolding all
+loop-holds c = search needs
+
+mul-course-good : tie.Need-mul-course-good Inv-loop μ-loop
+mul-course-good c = search needs
+
+element-copy-out-course-good : tie.Need-element-copy-out-course-good Inv-loop μ-loop
+element-copy-out-course-good c = search needs
+
+course-good-requires : tie.Need-course-good-requires Inv-loop μ-loop
+course-good-requires c κs = search needs
+
+add-i : tie.Need-add-i Inv-loop μ-loop
+add-i c = search needs
+
+loop-less : tie.Need-loop-less Inv-loop μ-loop
+loop-less c = search needs
+
+loop-again : tie.Need-loop-again Inv-loop μ-loop
+loop-again c =
+    let l = c .before .before .before in (search needs, ap₂ _&&_ (l .loop .inv .1) (c .course-good .ensures) ∙ sym (all-more (l .loop .i) (courseGood (l .before .args .t1))))
+
+returns : tie.Need-returns Inv-loop μ-loop
+returns c =
+    let is : c .before .loop .i ≡ 64 = omega arith in
+    c .before .loop .inv .1 ∙ ap (λ n. all n (courseGood (c .before .before .args .t1))) is
+
+pub courses-good-spec : {M : Type 1} → statement M
+courses-good-spec =
+    tie.close
+    (tie.spec
+    Inv-loop
+    μ-loop
+    loop-holds
+    mul-course-good
+    element-copy-out-course-good
+    course-good-requires
+    add-i
+    loop-less
+    loop-again
+    returns)

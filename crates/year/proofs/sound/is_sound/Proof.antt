@@ -1,0 +1,51 @@
+-- Each early return is a clause of the test that fails. That the two arrays have their lengths is what holding a year tells.
+use mathlib.Core.Path.{_≡_, sym, ap₂, _∙_}
+use mathlib.Core.Bool.{_&&_, true}
+use lib.ListN.{length, length-map}
+use borrow.Author.Needs.{needs}
+use borrow.Author.Tests.{lt-leb, le-leb, eq-eqb}
+use Rattle.year.specs.Sound.{isSound, shaped}
+use Rattle.year.proofs.sound.is_sound.Statement.{statement}
+use Rattle.year.proofs.sound.is_sound.Tie as tie
+
+-- an array of the program has its length
+shape : (c : tie.Start) → shaped (c .args .y) ≡ true
+shape c =
+    let t : length (c .args .y .term) ≡ 16 = sym (length-map (c .args .y .term) _) ∙ c .good .0 .1 .1 .1 .1 .0 .1 .0 .1 in
+    let d : length (c .args .y .course) ≡ 64 = sym (length-map (c .args .y .course) _) ∙ c .good .0 .1 .1 .1 .1 .1 .0 .1 .0 .1 in
+    simp (eq-eqb _ _ t, eq-eqb _ _ d)
+
+returns : tie.Need-returns
+unfolding isSound
+returns c = simp (lt-leb _ _ (c .if1 .taken))
+
+returns-2 : tie.Need-returns-2
+unfolding isSound
+returns-2 c = simp (le-leb _ _ (c .before .before .if1 .left), lt-leb _ _ (c .if2 .taken))
+
+returns-3 : tie.Need-returns-3
+unfolding isSound
+returns-3 c = simp (le-leb _ _ (c .before .before .before .before .if1 .left), le-leb _ _ (c .before .before .if2 .left), lt-leb _ _ (c .if3 .taken))
+
+terms-good-requires : tie.Need-terms-good-requires
+terms-good-requires c κs = search needs
+
+courses-good-requires : tie.Need-courses-good-requires
+courses-good-requires c κs = search needs
+
+returns-4 : tie.Need-returns-4
+unfolding isSound
+returns-4 c =
+    let e = c .before .before in
+    simp (
+      le-leb _ _ (e .before .before .before .before .if1 .left),
+      le-leb _ _ (e .before .before .if2 .left),
+      le-leb _ _ (e .if3 .left),
+      shape (e .before .before .before .before .before .before),
+    )
+    (ap₂ _&&_ (c .before .terms-good .ensures) (c .courses-good .ensures))
+
+pub is-sound-spec : {M : Type 1} → statement M
+is-sound-spec =
+    tie.close
+    (tie.spec returns returns-2 returns-3 terms-good-requires courses-good-requires returns-4)
