@@ -1,3 +1,4 @@
 -- Laws about records.
 pub mod EntryLaws
 pub mod ListLaws
+pub mod LayLaws

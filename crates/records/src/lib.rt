@@ -8,9 +8,11 @@ use year::Courses;
 use year::Credits;
 use year::Term;
 use year::Year;
+use year::sound;
 ghost use mathlib.Core.Path.{_≡_};
 ghost use lib.ListN.{length};
 ghost use Rattle.records.specs.Reading.{blankYear, refused, badLength, readList};
+ghost use Rattle.records.specs.Writing.{writeAnswer, written};
 
 // What is wrong with a byte string: the paper's refusals 1 to 7.
 pub enum Fault {
@@ -108,4 +110,20 @@ pub fn read(s: &[u8]) -> Received
         answer: Reading::Done,
         year: y,
     }
+}
+
+// Writes the records of a sound year into the front of a buffer that has room for them.
+pub fn write(y: Year, buf: &mut [u8]) -> Writing
+    ensures { λ r. ⌜ r ≡ writeAnswer y (length (now (buf .entry))) ⌝ }
+    ensures { λ _. ⌜ now (buf .exit) ≡ written y (now (buf .entry)) ⌝ }
+{
+    if !sound::is_sound(y) {
+        return Writing::Unsound;
+    }
+    if buf.len() < (y.terms + y.courses) * RECORD {
+        return Writing::Short;
+    }
+    blocks::put_terms(y, buf);
+    blocks::put_courses(y, buf);
+    Writing::Done
 }
