@@ -53,3 +53,15 @@ module _ (b : List ℕ) (at : ℕ) (l : List ℕ) (fits : at + length l ≤ leng
           ∙ drop-drop (length m) n b
           ∙ ap (λ (k : ℕ). drop k b) (add-assoc at (length l) (length m) ∙ ap (λ (k : ℕ). at + k) (sym (length-append l m))) in
       ap₂ (λ (p q : List ℕ). p ++ m ++ q) front back ∙ ap (λ (p : List ℕ). p ++ drop (at + length (l ++ m)) b) (append-assoc (take at b) l m)
+
+-- one block of sixteen more, at the place p where it comes
+pub laid-block : (b : List ℕ) (at : ℕ) (f : ℕ → List ℕ) (n p : ℕ) → ((i : ℕ) → length (f i) ≡ 16) → p ≡ at + n * 16 → p ≤ length b → laid (laid b at (joined f n)) p (f n) ≡ laid b at (joined f (n + 1))
+laid-block b at f n p h e fits =
+    let long = length-joined f n h in
+    let is : p ≡ at + length (joined f n) = e ∙ ap (λ (k : ℕ). at + k) (sym long) in
+    ap (λ (k : ℕ). laid (laid b at (joined f n)) k (f n)) is
+        ∙ laid-more b at (joined f n) (omega arith) (f n)
+        ∙ ap (laid b at) (sym (joined-more f n))
+
+pub length-blocks : (b : List ℕ) (at : ℕ) (f : ℕ → List ℕ) (n : ℕ) → ((i : ℕ) → length (f i) ≡ 16) → at + n * 16 ≤ length b → length (laid b at (joined f n)) ≡ length b
+length-blocks b at f n h fits = length-laid b at (joined f n) (omega (arith, length-joined f n h))
