@@ -48,10 +48,10 @@ module _ (b : List ℕ) (at : ℕ) (l : List ℕ) (fits : at + length l ≤ leng
       let n = at + length l in
       let front : take n (x ++ drop n b) ≡ x = take-at x (drop n b) n head-length in
       let back : drop (n + length m) (x ++ drop n b) ≡ drop (at + length (l ++ m)) b =
-          sym (drop-drop (length m) n (x ++ drop n b))
-          ∙ ap (drop (length m)) (drop-at x (drop n b) n head-length)
-          ∙ drop-drop (length m) n b
-          ∙ ap (λ (k : ℕ). drop k b) (add-assoc at (length l) (length m) ∙ ap (λ (k : ℕ). at + k) (sym (length-append l m))) in
+      sym (drop-drop (length m) n (x ++ drop n b))
+      ∙ ap (drop (length m)) (drop-at x (drop n b) n head-length)
+      ∙ drop-drop (length m) n b
+      ∙ ap (λ (k : ℕ). drop k b) (add-assoc at (length l) (length m) ∙ ap (λ (k : ℕ). at + k) (sym (length-append l m))) in
       ap₂ (λ (p q : List ℕ). p ++ m ++ q) front back ∙ ap (λ (p : List ℕ). p ++ drop (at + length (l ++ m)) b) (append-assoc (take at b) l m)
 
 -- one block of sixteen more, at the place p where it comes
@@ -60,8 +60,8 @@ laid-block b at f n p h e fits =
     let long = length-joined f n h in
     let is : p ≡ at + length (joined f n) = e ∙ ap (λ (k : ℕ). at + k) (sym long) in
     ap (λ (k : ℕ). laid (laid b at (joined f n)) k (f n)) is
-        ∙ laid-more b at (joined f n) (omega arith) (f n)
-        ∙ ap (laid b at) (sym (joined-more f n))
+    ∙ laid-more b at (joined f n) (omega arith) (f n)
+    ∙ ap (laid b at) (sym (joined-more f n))
 
 pub length-blocks : (b : List ℕ) (at : ℕ) (f : ℕ → List ℕ) (n : ℕ) → ((i : ℕ) → length (f i) ≡ 16) → at + n * 16 ≤ length b → length (laid b at (joined f n)) ≡ length b
 length-blocks b at f n h fits = length-laid b at (joined f n) (omega (arith, length-joined f n h))

@@ -2,3 +2,4 @@
 pub mod EntryLaws
 pub mod ListLaws
 pub mod LayLaws
+pub mod WriteLaws

@@ -87,10 +87,6 @@ pub fn put_courses(y: Year, buf: &mut [u8])
     ensures { λ _. ⌜ now (buf .exit) ≡ laid (now (buf .entry)) (y .terms * 16) (joined (courseBlock y) (y .courses)) ⌝ }
 {
     for i in 0..y.courses {
-        put(
-            buf,
-            (y.terms + i) * RECORD,
-            course_bytes(i, y.course[i]),
-        );
+        put(buf, (y.terms + i) * RECORD, course_bytes(i, y.course[i]));
     }
 }

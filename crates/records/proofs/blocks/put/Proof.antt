@@ -69,8 +69,8 @@ returns c =
     let b = c .before .before in
     let is : c .before .loop .k ≡ 16 = omega arith in
     c .before .loop .inv .1
-        ∙ ap (paste (b .args .buf .now) (b .args .at) (b .args .t3)) is
-        ∙ laid-paste (b .args .buf .now) (b .args .at) (b .args .t3) 16 (long b)
+    ∙ ap (paste (b .args .buf .now) (b .args .at) (b .args .t3)) is
+    ∙ laid-paste (b .args .buf .now) (b .args .at) (b .args .t3) 16 (long b)
 
 pub put-spec : {M : Type 1} → statement M
 put-spec =

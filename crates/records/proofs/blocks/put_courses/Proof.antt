@@ -71,9 +71,9 @@ loop-again c =
     let y = a .t1 in
     let i = c .before .before .before .before .before .before .before .loop .i in
     let is : c .before .before .put .last .0 ≡ laid (a .buf .now) (y .terms * 16) (joined (courseBlock y) (i + 1)) =
-        c .before .before .put .ensures
-            ∙ ap₂ (λ (d r : List ℕ). laid d ((y .terms + i) * 16) r) (c .before .before .before .before .before .before .before .loop .inv .1) (c .before .before .before .course-bytes .ensures)
-            ∙ law.laid-block (a .buf .now) (y .terms * 16) (courseBlock y) i ((y .terms + i) * 16) (λ k. refl) (omega arith) (omega (arith, c .before .before .before .before .before .before .before .before .before .pre .1)) in
+    c .before .before .put .ensures
+    ∙ ap₂ (λ (d r : List ℕ). laid d ((y .terms + i) * 16) r) (c .before .before .before .before .before .before .before .loop .inv .1) (c .before .before .before .course-bytes .ensures)
+    ∙ law.laid-block (a .buf .now) (y .terms * 16) (courseBlock y) i ((y .terms + i) * 16) (λ k. refl) (omega arith) (omega (arith, c .before .before .before .before .before .before .before .before .before .pre .1)) in
     (search needs, is, ap length is ∙ law.length-blocks (a .buf .now) (y .terms * 16) (courseBlock y) (i + 1) (λ k. refl) (omega (arith, c .before .before .before .before .before .before .before .before .before .pre .1)))
 
 -- src/blocks.rt:84:1

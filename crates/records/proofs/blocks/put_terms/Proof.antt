@@ -67,9 +67,9 @@ loop-again c =
     let y = a .t1 in
     let j = c .before .before .before .before .before .before .before .loop .j in
     let is : c .before .before .put .last .0 ≡ laid (a .buf .now) 0 (joined (termBlock y) (j + 1)) =
-        c .before .before .put .ensures
-            ∙ ap₂ (λ (d r : List ℕ). laid d (j * 16) r) (c .before .before .before .before .before .before .before .loop .inv .1) (c .before .before .before .term-bytes .ensures)
-            ∙ law.laid-block (a .buf .now) 0 (termBlock y) j (j * 16) (λ k. refl) (omega arith) (omega (arith, c .before .before .before .before .before .before .before .before .before .pre .1)) in
+    c .before .before .put .ensures
+    ∙ ap₂ (λ (d r : List ℕ). laid d (j * 16) r) (c .before .before .before .before .before .before .before .loop .inv .1) (c .before .before .before .term-bytes .ensures)
+    ∙ law.laid-block (a .buf .now) 0 (termBlock y) j (j * 16) (λ k. refl) (omega arith) (omega (arith, c .before .before .before .before .before .before .before .before .before .pre .1)) in
     (search needs, is, ap length is ∙ law.length-blocks (a .buf .now) 0 (termBlock y) (j + 1) (λ k. refl) (omega (arith, c .before .before .before .before .before .before .before .before .before .pre .1)))
 
 -- src/blocks.rt:73:1
