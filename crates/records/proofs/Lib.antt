@@ -3,3 +3,4 @@ pub mod EntryLaws
 pub mod ListLaws
 pub mod LayLaws
 pub mod WriteLaws
+pub mod ReadWrite

@@ -1,25 +1,31 @@
 -- A list read record by record: what holds of the blank year and is kept by each record holds of each year that was read.
-use Prim.Native.Nat.{ℕ, zero, suc, _+_, _-_, _*_, _≤_, _<_}
+use Prim.Native.Nat.{ℕ, zero, suc, _+_, _-_, _*_, _/_, _%_, _≤_, _<_}
+use mathlib.Core.Bool.{Bool, true, false, not, _||_}
 use mathlib.Core.List.{List}
 use mathlib.Core.Path.{_≡_, refl, sym, ap, _∙_}
 use native.Mathlib.Numerals.{add-one}
 use native.Mathlib.Nat.{add-zero, add-suc}
 use native.Mathlib.Omega.{arith}
 use native.Mathlib.Decide.{ℕ-discrete}
+use lib.Dec.{eqb, ltb}
 use lib.ListN.{length, getD, length-set, length-replicate, getD-replicate}
 use lib.Seq.{getD-set-same, getD-set-other}
+use borrow.Author.Tests.{eqb-true, eqb-false, not-false}
+use Rattle.theory.specs.Choice.{choose}
+use Rattle.theory.specs.Tests.{or-false}
 use Rattle.year.specs.Year.{termAt, courseAt, zeroTerm, zeroCourse}
 use Rattle.year.specs.Sound.{TermSound, CourseSound, Sound}
 use Rattle.year.specs.declared.Term.{Term}
 use Rattle.year.specs.declared.Course.{Course}
 use Rattle.year.specs.declared.Year.{Year}
 use Rattle.records.specs.declared.Fault.{Fault}
+use Rattle.records.specs.declared.Fault.the-variants as fault
 use Rattle.records.specs.declared.Record.{Record}
 use Rattle.records.specs.declared.Record.the-variants.{OfTerm, OfCourse, Faulty}
 use Rattle.records.specs.declared.Reading.{Reading}
 use Rattle.records.specs.declared.Reading.the-variants.{Done, Refused}
 use Rattle.records.specs.declared.Received.{Received}
-use Rattle.records.specs.Reading.{recordAt, blankYear, addTerm, addCourse, done, refused, taken, onward, readTo}
+use Rattle.records.specs.Reading.{recordAt, blankYear, addTerm, addCourse, done, refused, taken, onward, readTo, badLength, readList}
 use Rattle.records.proofs.EntryLaws.{TermRead, CourseRead, record-term, record-course}
 
 -- ---- the records one by one
@@ -96,7 +102,7 @@ pub record Front (k : ℕ) (y : Year) : Type 0 where
   pub term-blank : (j : ℕ) → y .terms ≤ j → j < 16 → termAt y j ≡ zeroTerm
   pub course-blank : (i : ℕ) → y .courses ≤ i → i < 64 → courseAt y i ≡ zeroCourse
 
-front-start : Front 0 blankYear
+pub front-start : Front 0 blankYear
 front-start = record {
   count = refl;
   some-term = λ h. absurd (omega arith);
@@ -110,7 +116,7 @@ front-start = record {
   course-blank = λ i h m. getD-replicate 64 i zeroCourse zeroCourse m;
 }
 
-front-term : (s : List ℕ) (k : ℕ) (y : Year) (t : Term) → Front k y → recordIn s k y ≡ OfTerm t → Front (suc k) (addTerm y t)
+pub front-term : (s : List ℕ) (k : ℕ) (y : Year) (t : Term) → Front k y → recordIn s k y ≡ OfTerm t → Front (suc k) (addTerm y t)
 front-term s k y t f e =
     let r = record-term s (k * 16) (y .terms) (y .courses) t e in
     let none : y .courses ≡ 0 = r .1 in
@@ -135,7 +141,7 @@ front-term s k y t f e =
         rw (q, getD-set-same (y .term) (y .terms) t zeroTerm room, sym (r .2 .holds)) (r .2 .sound)
     sound j h (no d) = rw (getD-set-other (y .term) (y .terms) j t zeroTerm d) (f .term-sound j (omega (arith, d)))
 
-front-course : (s : List ℕ) (k : ℕ) (y : Year) (c : Course) → Front k y → recordIn s k y ≡ OfCourse c → Front (suc k) (addCourse y c)
+pub front-course : (s : List ℕ) (k : ℕ) (y : Year) (c : Course) → Front k y → recordIn s k y ≡ OfCourse c → Front (suc k) (addCourse y c)
 front-course s k y c f e =
     let r = record-course s (k * 16) (y .terms) (y .courses) c e in
     let room : y .courses < 64 = r .2 .room in
@@ -161,3 +167,38 @@ front-course s k y c f e =
 
 pub read-front : (s : List ℕ) (k : ℕ) (y : Year) → readTo s k ≡ done y → Front k y
 read-front s = read-keeps s Front front-start (front-term s) (front-course s)
+
+-- ---- the whole list
+
+-- a list that was read: its length, and the year of all its records
+pub list-read : (s : List ℕ) (y : Year) → readList s ≡ done y → (1 ≤ length s / 16) × (length s / 16 * 16 ≡ length s) × (readTo s (length s / 16) ≡ done y)
+unfolding readList
+list-read s y e = go (badLength (length s)) refl e
+  where
+    go : (b : Bool) → badLength (length s) ≡ b → choose b (refused fault.Length 0) (readTo s (length s / 16)) ≡ done y → (1 ≤ length s / 16) × (length s / 16 * 16 ≡ length s) × (readTo s (length s / 16) ≡ done y)
+    go true p e =
+        let a : Refused fault.Length 0 ≡ Done = ap (λ (r : Received). r .answer) e in
+        let x : _≡_ {A = ℕ} 0 1 = cc in
+        absurd (omega arith)
+    go false p e =
+        let q = or-false (eqb (length s) 0 || ltb 1280 (length s)) (not (eqb (length s % 16) 0)) p in
+        let some : length s ≡ 0 → ⊥ = eqb-false _ _ (or-false (eqb (length s) 0) (ltb 1280 (length s)) (q .0) .0) in
+        let whole : length s % 16 ≡ 0 = eqb-true _ _ (not-false _ (q .1)) in
+        (omega (arith, some), omega arith, e)
+
+-- a year that was read is sound
+pub read-sound : (s : List ℕ) (y : Year) → readList s ≡ done y → Sound y
+read-sound s y e =
+    let l = list-read s y e in
+    let f = read-front s (length s / 16) y (l .2) in
+    record {
+      terms-least = f .some-term (l .0);
+      terms-most = f .terms-most;
+      courses-most = f .courses-most;
+      term-length = f .term-length;
+      course-length = f .course-length;
+      term-sound = f .term-sound;
+      course-sound = f .course-sound;
+      term-blank = f .term-blank;
+      course-blank = f .course-blank;
+    }
