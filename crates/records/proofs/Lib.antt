@@ -4,3 +4,4 @@ pub mod ListLaws
 pub mod LayLaws
 pub mod WriteLaws
 pub mod ReadWrite
+pub mod WriteRead
