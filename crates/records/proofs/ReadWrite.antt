@@ -109,12 +109,12 @@ records-term y t none room =
     let z = addTerm y t in
     let n = y .terms in
     let same : joined (termBlock z) n ≡ joined (termBlock y) n =
-        joined-same (termBlock z) (termBlock y) n (λ i l. ap (termBytes i) (getD-set-other (y .term) n i t zeroTerm (λ q. omega arith))) in
+    joined-same (termBlock z) (termBlock y) n (λ i l. ap (termBytes i) (getD-set-other (y .term) n i t zeroTerm (λ q. omega arith))) in
     let new : termBlock z n ≡ termBytes n t = ap (termBytes n) (getD-set-same (y .term) n t zeroTerm room) in
     rw none
     (append-nil (joined (termBlock z) (n + 1))
-        ∙ joined-more (termBlock z) n
-        ∙ ap₂ _++_ (same ∙ sym (append-nil (joined (termBlock y) n))) new)
+    ∙ joined-more (termBlock z) n
+    ∙ ap₂ _++_ (same ∙ sym (append-nil (joined (termBlock y) n))) new)
 
 records-course : (y : Year) (c : Course) → y .courses < length (y .course) → recordsOf (addCourse y c) ≡ recordsOf y ++ courseBytes (y .courses) c
 unfolding recordsOf
@@ -122,10 +122,10 @@ records-course y c room =
     let z = addCourse y c in
     let n = y .courses in
     let same : joined (courseBlock z) n ≡ joined (courseBlock y) n =
-        joined-same (courseBlock z) (courseBlock y) n (λ i l. ap (courseBytes i) (getD-set-other (y .course) n i c zeroCourse (λ q. omega arith))) in
+    joined-same (courseBlock z) (courseBlock y) n (λ i l. ap (courseBytes i) (getD-set-other (y .course) n i c zeroCourse (λ q. omega arith))) in
     let new : courseBlock z n ≡ courseBytes n c = ap (courseBytes n) (getD-set-same (y .course) n c zeroCourse room) in
     ap (λ (l : List ℕ). joined (termBlock y) (y .terms) ++ l) (joined-more (courseBlock z) n ∙ ap₂ _++_ same new)
-        ∙ sym (append-assoc (joined (termBlock y) (y .terms)) (joined (courseBlock y) n) (courseBytes n c))
+    ∙ sym (append-assoc (joined (termBlock y) (y .terms)) (joined (courseBlock y) n) (courseBytes n c))
 
 -- ---- the list
 
@@ -146,20 +146,24 @@ module _ (s : List ℕ) (bytes : AllBytes s) where
   back-term : (k : ℕ) (y : Year) (t : Term) → Back k y → recordIn s k y ≡ OfTerm t → Back (suc k) (addTerm y t)
   back-term k y t p e =
       let r = record-term s (k * 16) (y .terms) (y .courses) t e in
-      let room : y .terms < length (y .term) = omega (arith, r .2 .room, p .0 .term-length) in
-      (front-term s k y t (p .0) e, λ h.
-      records-term y t (r .1) room
-          ∙ ap (λ (l : List ℕ). l ++ termBytes (y .terms) t) (p .1 (omega arith))
-          ∙ sym (further k (termBytes (y .terms) t) (term-back s (k * 16) (omega arith) bytes (y .terms) t (r .0) (r .2))))
+      let room : y .terms < length (y .term) = omega (arith, r .2 .room, p .0 .term-length) in (
+        front-term s k y t (p .0) e,
+        λ h.
+            records-term y t (r .1) room
+            ∙ ap (λ (l : List ℕ). l ++ termBytes (y .terms) t) (p .1 (omega arith))
+            ∙ sym (further k (termBytes (y .terms) t) (term-back s (k * 16) (omega arith) bytes (y .terms) t (r .0) (r .2))),
+      )
 
   back-course : (k : ℕ) (y : Year) (c : Course) → Back k y → recordIn s k y ≡ OfCourse c → Back (suc k) (addCourse y c)
   back-course k y c p e =
       let r = record-course s (k * 16) (y .terms) (y .courses) c e in
-      let room : y .courses < length (y .course) = omega (arith, r .2 .room, p .0 .course-length) in
-      (front-course s k y c (p .0) e, λ h.
-      records-course y c room
-          ∙ ap (λ (l : List ℕ). l ++ courseBytes (y .courses) c) (p .1 (omega arith))
-          ∙ sym (further k (courseBytes (y .courses) c) (course-back s (k * 16) (omega arith) bytes (y .courses) (y .terms) c (r .0) (r .2))))
+      let room : y .courses < length (y .course) = omega (arith, r .2 .room, p .0 .course-length) in (
+        front-course s k y c (p .0) e,
+        λ h.
+            records-course y c room
+            ∙ ap (λ (l : List ℕ). l ++ courseBytes (y .courses) c) (p .1 (omega arith))
+            ∙ sym (further k (courseBytes (y .courses) c) (course-back s (k * 16) (omega arith) bytes (y .courses) (y .terms) c (r .0) (r .2))),
+      )
 
   pub read-write : (y : Year) → readList s ≡ done y → recordsOf y ≡ s
   read-write y e =

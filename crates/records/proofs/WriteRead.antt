@@ -48,7 +48,7 @@ module _ (y : Year) where
   term-byte j r l m =
       let t = joined (termBlock y) (y .terms) in
       List·getD-append t (joined (courseBlock y) (y .courses)) 0 (j * 16 + r) (omega (arith, length-joined (termBlock y) (y .terms) (λ i. refl)))
-          ∙ getD-joined (termBlock y) (y .terms) j r (λ i. refl) l m
+      ∙ getD-joined (termBlock y) (y .terms) j r (λ i. refl) l m
 
   course-byte : (i r : ℕ) → i < y .courses → r < 16 → getD (recordsOf y) ((y .terms + i) * 16 + r) 0 ≡ getD (courseBlock y i) r 0
   unfolding recordsOf
@@ -56,8 +56,8 @@ module _ (y : Year) where
       let t = joined (termBlock y) (y .terms) in
       let is : (y .terms + i) * 16 + r ≡ length t + (i * 16 + r) = omega (arith, length-joined (termBlock y) (y .terms) (λ i. refl)) in
       ap (λ (k : ℕ). getD (t ++ joined (courseBlock y) (y .courses)) k 0) is
-          ∙ getD-append-add t (joined (courseBlock y) (y .courses)) (i * 16 + r) 0
-          ∙ getD-joined (courseBlock y) (y .courses) i r (λ k. refl) l m
+      ∙ getD-append-add t (joined (courseBlock y) (y .courses)) (i * 16 + r) 0
+      ∙ getD-joined (courseBlock y) (y .courses) i r (λ k. refl) l m
 
 -- ---- a block is read as what it holds
 
@@ -172,7 +172,7 @@ module _ (y : Year) (s : Sound y) where
   reads-terms zero h = read-zero (recordsOf y)
   reads-terms (suc j) h =
       let is : recordAt (recordsOf y) (j * 16) j 0 ≡ OfTerm (termAt y j) =
-          term-reads (recordsOf y) (j * 16) j (termAt y j) (λ r m. term-byte y j r (omega arith) m) (s .term-sound j (omega arith)) (omega (arith, s .terms-most)) in
+      term-reads (recordsOf y) (j * 16) j (termAt y j) (λ r m. term-byte y j r (omega arith) m) (s .term-sound j (omega arith)) (omega (arith, s .terms-most)) in
       read-more (recordsOf y) j (front y j 0) (reads-terms j (omega arith)) ∙ ap (taken (front y j 0) j) is ∙ ap done (front-term y j)
 
   reads-courses : (i : ℕ) → i ≤ y .courses → readTo (recordsOf y) (y .terms + i) ≡ done (front y (y .terms) i)
@@ -181,11 +181,11 @@ module _ (y : Year) (s : Sound y) where
   reads-courses (suc i) h =
       let m = y .terms in
       let is : recordAt (recordsOf y) ((m + i) * 16) m i ≡ OfCourse (courseAt y i) =
-          course-reads (recordsOf y) ((m + i) * 16) i m (courseAt y i) (λ r q. course-byte y i r (omega arith) q) (s .course-sound i (omega arith)) (omega (arith, s .courses-most)) (s .terms-least) in
+      course-reads (recordsOf y) ((m + i) * 16) i m (courseAt y i) (λ r q. course-byte y i r (omega arith) q) (s .course-sound i (omega arith)) (omega (arith, s .courses-most)) (s .terms-least) in
       ap (readTo (recordsOf y)) (add-suc m i)
-          ∙ read-more (recordsOf y) (m + i) (front y m i) (reads-courses i (omega arith))
-          ∙ ap (taken (front y m i) (m + i)) is
-          ∙ ap done (front-course y m i)
+      ∙ read-more (recordsOf y) (m + i) (front y m i) (reads-courses i (omega arith))
+      ∙ ap (taken (front y m i) (m + i)) is
+      ∙ ap done (front-course y m i)
 
   pub write-read : readList (recordsOf y) ≡ done y
   unfolding readList
