@@ -1,8 +1,8 @@
 -- What one record that was read says of its bytes, and what it holds.
-use Prim.Native.Nat.{ℕ, _+_, _/_, _^_, _≤_, _<_}
+use Prim.Native.Nat.{ℕ, _/_, _^_, _≤_, _<_}
 use mathlib.Core.Bool.{Bool, true, false, not, _&&_, _||_}
 use mathlib.Core.List.{List}
-use mathlib.Core.Path.{_≡_, refl, sym, _∙_}
+use mathlib.Core.Path.{_≡_, refl}
 use native.Mathlib.Omega.{arith}
 use native.Mathlib.Nat.{div-lt-iff-lt-mul, one-mul}
 use lib.Dec.{eqb, leb, ltb}
@@ -14,9 +14,7 @@ use Rattle.year.specs.Year.{termOf, courseOf}
 use Rattle.year.specs.Sound.{TermSound, CourseSound}
 use Rattle.year.specs.declared.Term.{Term}
 use Rattle.year.specs.declared.Course.{Course}
-use Rattle.records.specs.declared.Fault.{Fault}
 use Rattle.records.specs.declared.Fault.the-variants as fault
-use Rattle.records.specs.declared.Record.{Record}
 use Rattle.records.specs.declared.Record.the-variants.{OfTerm, OfCourse, Faulty}
 use Rattle.records.specs.Bytes.{letterAt, byteAt, wordAt, blankFrom}
 use Rattle.records.specs.Reading.{badNumber, badBounds, badOrder, badWeight, badList, termRecord, courseRecord, recordAt}

@@ -1,7 +1,7 @@
 -- What was read is written back byte for byte.
 use Prim.Native.Nat.{ℕ, zero, suc, _+_, _-_, _*_, _/_, _%_, _≤_, _<_}
 use mathlib.Core.Bool.{true}
-use mathlib.Core.List.{List, [], _∷_, _++_, append-assoc, append-nil}
+use mathlib.Core.List.{List, _++_, append-assoc, append-nil}
 use mathlib.Core.Path.{_≡_, refl, sym, ap, ap₂, _∙_}
 use native.Mathlib.Nat.{add-zero}
 use native.Mathlib.Omega.{arith}
@@ -11,13 +11,13 @@ use lib.Seq.{ext-getD, length-take-le, getD-take, getD-drop, getD-set-same, getD
 use borrow.Author.Tests.{eqb-true}
 use Rattle.theory.specs.Tab.{tab, length-tab, getD-tab}
 use Rattle.theory.specs.Tests.{all-at}
-use Rattle.year.specs.Year.{termAt, courseAt, zeroTerm, zeroCourse}
+use Rattle.year.specs.Year.{zeroTerm, zeroCourse}
 use Rattle.year.specs.declared.Term.{Term}
 use Rattle.year.specs.declared.Course.{Course}
 use Rattle.year.specs.declared.Year.{Year}
 use Rattle.records.specs.declared.Record.the-variants.{OfTerm, OfCourse}
 use Rattle.records.specs.Bytes.{letterAt, byteAt, wordAt, blankAt, blankFrom, AllBytes}
-use Rattle.records.specs.Reading.{blankYear, addTerm, addCourse, done, readTo, readList}
+use Rattle.records.specs.Reading.{blankYear, addTerm, addCourse, done, readList}
 use Rattle.records.specs.Writing.{termBytes, courseBytes, termBlock, courseBlock, joined, recordsOf}
 use Rattle.records.proofs.EntryLaws.{termIn, courseIn, TermRead, CourseRead, record-term, record-course}
 use Rattle.records.proofs.LayLaws.{joined-more}

@@ -1,14 +1,14 @@
 -- What was written of a sound year is read back as that year.
-use Prim.Native.Nat.{ℕ, zero, suc, _+_, _-_, _*_, _/_, _%_, _^_, _≤_, _<_}
-use mathlib.Core.Bool.{Bool, true, false, not, _&&_, _||_}
+use Prim.Native.Nat.{ℕ, zero, suc, _+_, _-_, _*_, _/_, _%_, _≤_, _<_}
+use mathlib.Core.Bool.{false, not, _||_}
 use mathlib.Core.List.{List, _++_}
-use mathlib.Core.Path.{_≡_, refl, sym, ap, ap₂, _∙_}
+use mathlib.Core.Path.{_≡_, refl, sym, ap, _∙_}
 use native.Mathlib.Nat.{add-zero, add-suc, div-eq-of-lt}
 use native.Mathlib.Numerals.{add-one}
 use native.Mathlib.Omega.{arith}
 use native.Mathlib.Decide.{ℕ-discrete, decLt}
-use lib.Dec.{eqb, leb, ltb, lit<}
-use lib.ListN.{length, getD, set, replicate, length-append, length-replicate, getD-replicate, List·getD-append}
+use lib.Dec.{eqb, leb, lit<}
+use lib.ListN.{length, getD, set, replicate, length-replicate, getD-replicate, List·getD-append}
 use lib.Seq.{ext-getD, getD-append-add, getD-set-other}
 use borrow.Author.Tests.{le-ltb, le-leb, lt-leb, eq-eqb, ne-eqb}
 use Rattle.theory.specs.Tab.{fill, length-fill, getD-fill}
@@ -19,8 +19,8 @@ use Rattle.year.specs.declared.Term.{Term}
 use Rattle.year.specs.declared.Course.{Course}
 use Rattle.year.specs.declared.Year.{Year}
 use Rattle.records.specs.declared.Record.the-variants.{OfTerm, OfCourse}
-use Rattle.records.specs.Bytes.{letterAt, byteAt, wordAt, blankFrom}
-use Rattle.records.specs.Reading.{badNumber, badBounds, badOrder, badWeight, badList, termRecord, courseRecord, recordAt, blankYear, addTerm, addCourse, done, taken, readTo, readList}
+use Rattle.records.specs.Bytes.{letterAt, byteAt}
+use Rattle.records.specs.Reading.{termRecord, courseRecord, recordAt, addTerm, addCourse, done, taken, readTo, readList}
 use Rattle.records.specs.Writing.{termBytes, courseBytes, termBlock, courseBlock, joined, recordsOf}
 use Rattle.records.proofs.LayLaws.{length-joined}
 use Rattle.records.proofs.ListLaws.{read-zero, read-more}

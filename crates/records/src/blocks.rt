@@ -1,5 +1,7 @@
 // The records of a sound year laid into a lent buffer, one behind the other.
+use crate::COURSE_LETTER;
 use crate::RECORD;
+use crate::TERM_LETTER;
 use year::Course;
 use year::Term;
 use year::Year;
@@ -15,7 +17,7 @@ fn term_bytes(number: usize, t: Term) -> [u8; 16]
     ensures { λ r. ⌜ r ≡ termBytes number t ⌝ }
 {
     [
-        84,
+        TERM_LETTER,
         number as u8,
         (t.low.0 / 256) as u8,
         (t.low.0 % 256) as u8,
@@ -40,7 +42,7 @@ fn course_bytes(number: usize, c: Course) -> [u8; 16]
     ensures { λ r. ⌜ r ≡ courseBytes number c ⌝ }
 {
     [
-        67,
+        COURSE_LETTER,
         number as u8,
         (c.weight.0 / 256) as u8,
         (c.weight.0 % 256) as u8,

@@ -1,6 +1,8 @@
 // One record: its faults in the paper's order, or the term or course that it holds.
+use crate::COURSE_LETTER;
 use crate::Fault;
 use crate::Record;
+use crate::TERM_LETTER;
 use crate::bytes;
 use year::Course;
 use year::Courses;
@@ -76,10 +78,10 @@ pub fn read_record(s: &[u8], at: usize, terms: usize, courses: usize) -> Record
     requires { ⌜ terms ≤ 16 ⌝ }
     ensures { λ r. ⌜ r ≡ recordAt (now (s .entry)) at terms courses ⌝ }
 {
-    if (s[at] == 84) & (courses == 0) {
+    if (s[at] == TERM_LETTER) & (courses == 0) {
         return read_term(s, at, terms);
     }
-    if (s[at] == 67) & (1 <= terms) {
+    if (s[at] == COURSE_LETTER) & (1 <= terms) {
         return read_course(s, at, courses, terms);
     }
     Record::Faulty(Fault::Letter)

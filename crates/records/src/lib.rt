@@ -4,8 +4,6 @@ mod bytes;
 mod entries;
 
 use year::Course;
-use year::Courses;
-use year::Credits;
 use year::Term;
 use year::Year;
 use year::sound;
@@ -54,6 +52,11 @@ pub enum Writing {
 pub const RECORD: usize = 16;
 
 pub const LONGEST: usize = 1280;
+
+// The letters that records start with, "T" and "C".
+pub const TERM_LETTER: u8 = 84;
+
+pub const COURSE_LETTER: u8 = 67;
 
 fn refused(f: Fault, k: usize) -> Received
     ensures { λ r. ⌜ r ≡ refused f k ⌝ }

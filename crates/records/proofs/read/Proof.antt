@@ -1,20 +1,14 @@
+-- `read`: the year held is what the definition has after the same records; a refusal stays to the end of the list.
 use Rattle.records.proofs.read.Statement.{statement}
 use Rattle.records.proofs.read.Tie as tie
-use Rattle.records.proofs.read.Reads as reads
-use Rattle.records.proofs.read.Lts as lts
-use Rattle.records.proofs.bad_length.Reads as bad-length-reads
-use Rattle.records.proofs.blank.Reads as blank-reads
-use Rattle.records.proofs.entries.read_record.Reads as read-record-reads
-use Rattle.records.proofs.refused.Reads as refused-reads
-use Prim.Native.Nat.{ℕ, suc, _+_, _*_, _/_, _-_, _≤_, _<_}
-use mathlib.Core.Path.{_≡_, _∙_, ap, sym, refl}
+use Prim.Native.Nat.{suc, _+_, _/_, _-_, _≤_, _<_}
+use mathlib.Core.Path.{_≡_, _∙_, ap, sym}
 use mathlib.Core.Logic.{⊎-elim}
 use native.Mathlib.Omega.{arith}
 use native.Mathlib.Numerals.{add-one}
 use borrow.Author.Needs.{needs}
 use lib.ListN.{length}
 use Rattle.records.specs.Reading.{readTo, readList, done, refused, taken}
-use Rattle.records.specs.declared.Record.the-variants.{OfTerm, OfCourse, Faulty}
 use Rattle.records.proofs.EntryLaws.{record-term, record-course}
 use Rattle.records.proofs.ListLaws as law
 
@@ -36,76 +30,58 @@ course-room : (c : tie.After-c Inv-loop μ-loop) → c .before .before .before .
 course-room c =
     record-course _ _ _ _ (c .c .given .0 .0) (sym (c .before .before .read-record .ensures) ∙ c .c .given .1) .2 .room
 
--- src/lib.rt:86:8
 bad-length-requires : tie.Need-bad-length-requires Inv-loop μ-loop
 bad-length-requires c κs = search needs
 
--- src/lib.rt:87:9
 refused-requires : tie.Need-refused-requires Inv-loop μ-loop
 refused-requires c κs = search needs
 
--- src/lib.rt:87:9
 returns : tie.Need-returns Inv-loop μ-loop
 unfolding readList
 returns c = c .refused .ensures ∙ simp (sym (c .before .before .bad-length .ensures) ∙ c .before .if1 .taken)
 
--- src/lib.rt:89:17
 blank-requires : tie.Need-blank-requires Inv-loop μ-loop
 blank-requires c κs = search needs
 
--- src/lib.rt:90:5
 loop-holds : tie.Need-loop-holds Inv-loop μ-loop
 loop-holds c = (search needs, law.read-zero _ ∙ ap done (sym (c .blank .ensures)))
 
--- src/lib.rt:91:39
 mul-read-record : tie.Need-mul-read-record Inv-loop μ-loop
 mul-read-record c = search needs
 
--- src/lib.rt:91:15
 read-record-requires : tie.Need-read-record-requires Inv-loop μ-loop
 read-record-requires c κs = (omega arith, front (c .before) .terms-most)
 
--- src/lib.rt:92:28
 enum-known-t : tie.Need-enum-known-t Inv-loop μ-loop
 enum-known-t c = search needs
 
--- src/lib.rt:94:17
 mul-t : tie.Need-mul-t Inv-loop μ-loop
 mul-t c = omega (arith, term-room (c .before))
 
--- src/lib.rt:94:17
 element-set-from-t : tie.Need-element-set-from-t Inv-loop μ-loop
 element-set-from-t c = term-room (c .before)
 
--- src/lib.rt:95:27
 add-y : tie.Need-add-y Inv-loop μ-loop
 add-y c = omega (arith, term-room (c .before))
 
--- src/lib.rt:97:30
 enum-known-c : tie.Need-enum-known-c Inv-loop μ-loop
 enum-known-c c = search needs
 
--- src/lib.rt:99:17
 mul-c : tie.Need-mul-c Inv-loop μ-loop
 mul-c c = omega (arith, course-room (c .before))
 
--- src/lib.rt:99:17
 element-set-from-c : tie.Need-element-set-from-c Inv-loop μ-loop
 element-set-from-c c = course-room (c .before)
 
--- src/lib.rt:100:29
 add-y-2 : tie.Need-add-y-2 Inv-loop μ-loop
 add-y-2 c = omega (arith, course-room (c .before))
 
--- src/lib.rt:102:28
 enum-known-f : tie.Need-enum-known-f Inv-loop μ-loop
 enum-known-f c = search needs
 
--- src/lib.rt:103:17
 refused-requires-2 : tie.Need-refused-requires-2 Inv-loop μ-loop
 refused-requires-2 c κs = search needs
 
--- src/lib.rt:103:17
 returns-2 : tie.Need-returns-2 Inv-loop μ-loop
 unfolding readList
 returns-2 c =
@@ -118,15 +94,12 @@ returns-2 c =
     c .refused2 .ensures
     ∙ sym (simp (sym (c .before .before .before .before .before .before .before .before .before .bad-length .ensures) ∙ c .before .before .before .before .before .before .before .before .if1 .left) (law.refused-stays s (suc k) (length s / 16) f k (omega (arith, add-one k)) more))
 
--- src/lib.rt:90:9
 add-k : tie.Need-add-k Inv-loop μ-loop
 add-k c = search needs
 
--- src/lib.rt:90:5
 loop-less : tie.Need-loop-less Inv-loop μ-loop
 loop-less c = search needs
 
--- src/lib.rt:90:5
 loop-again : tie.Need-loop-again Inv-loop μ-loop
 loop-again c =
     let s = c .before .before .before .before .before .before .before .before .args .s .now in
@@ -136,7 +109,6 @@ loop-again c =
     ap (readTo s) (add-one k) ∙ law.read-more s k y (c .before .before .before .loop .inv .1) ∙ ap (taken y k) (sym (c .before .read-record .ensures)) in
     (search needs, ⊎-elim (λ w. more ∙ ap (taken y k) (w .1 .given .1) ∙ ap done (sym (w .3))) (λ w. more ∙ ap (taken y k) (w .1 .given .1) ∙ ap done (sym (w .3))) (c .match .came))
 
--- src/lib.rt:82:1
 returns-3 : tie.Need-returns-3 Inv-loop μ-loop
 unfolding readList
 returns-3 c =

@@ -1,3 +1,4 @@
+-- `refused`: the answer beside the empty year.
 use borrow.Author.Needs.{needs}
 use mathlib.Core.Path.{ap}
 use Rattle.year.specs.declared.Year.{Year}
@@ -5,15 +6,10 @@ use Rattle.records.specs.declared.Received.{Received}
 use Rattle.records.specs.declared.Reading.the-variants.{Refused}
 use Rattle.records.proofs.refused.Statement.{statement}
 use Rattle.records.proofs.refused.Tie as tie
-use Rattle.records.proofs.refused.Reads as reads
-use Rattle.records.proofs.refused.Lts as lts
-use Rattle.year.proofs.Year.empty.Reads as empty-reads
 
--- src/lib.rt:59:9
 empty-requires : tie.Need-empty-requires
 empty-requires c κs = search needs
 
--- src/lib.rt:56:1
 returns : tie.Need-returns
 returns c = ap {B = Received} (λ (y : Year). record { answer = Refused (c .before .args .f) (c .before .args .k); year = y }) (c .empty .ensures)
 

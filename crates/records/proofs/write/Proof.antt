@@ -1,3 +1,4 @@
+-- `write`: a year that passes the test is sound, so its records fit where the buffer has room for them.
 use Prim.Native.Nat.{ℕ, _*_}
 use mathlib.Core.Bool.{true}
 use mathlib.Core.List.{List}
@@ -11,11 +12,6 @@ use Rattle.records.specs.Writing.{courseBlock, joined, laid}
 use Rattle.records.proofs.WriteLaws as law
 use Rattle.records.proofs.write.Statement.{statement}
 use Rattle.records.proofs.write.Tie as tie
-use Rattle.records.proofs.write.Reads as reads
-use Rattle.records.proofs.write.Lts as lts
-use Rattle.records.proofs.blocks.put_courses.Reads as put-courses-reads
-use Rattle.records.proofs.blocks.put_terms.Reads as put-terms-reads
-use Rattle.year.proofs.sound.is_sound.Reads as is-sound-reads
 
 passes : (c : tie.Else1) → isSound (c .before .before .before .args .y) ≡ true
 passes c = sym (c .before .is-sound .ensures) ∙ not-false _ (c .if1 .left)
@@ -23,39 +19,30 @@ passes c = sym (c .before .is-sound .ensures) ∙ not-false _ (c .if1 .left)
 sound : (c : tie.Else1) → Sound (c .before .before .before .args .y)
 sound c = sound-of (c .before .before .before .args .y) (passes c)
 
--- src/lib.rt:120:9
 is-sound-requires : tie.Need-is-sound-requires
 is-sound-requires c κs = search needs
 
--- src/lib.rt:121:9
 returns : tie.Need-returns
 returns c = law.write-unsound (c .before .before .before .args .y) (c .before .before .before .args .buf .now) (sym (c .before .is-sound .ensures) ∙ not-true _ (c .if1 .taken))
 
--- src/lib.rt:123:21
 add-if2 : tie.Need-add-if2
 add-if2 c = omega (arith, sound (c .before))
 
--- src/lib.rt:123:20
 mul-if2 : tie.Need-mul-if2
 mul-if2 c = omega (arith, sound (c .before))
 
--- src/lib.rt:124:9
 returns-2 : tie.Need-returns-2
 returns-2 c = law.write-short (c .before .before .before .before .before .args .y) (c .before .before .before .before .before .args .buf .now) (passes (c .before .before)) (c .if2 .taken)
 
--- src/lib.rt:126:5
 put-terms-requires : tie.Need-put-terms-requires
 put-terms-requires c κs = (sound (c .before .before .before), omega (arith, c .before .if2 .left))
 
--- src/lib.rt:127:5
 put-courses-requires : tie.Need-put-courses-requires
 put-courses-requires c κs = (sound (c .before .before .before .before .before .before .before), omega (arith, c .before .before .before .before .before .if2 .left, c .before .before .before .put-terms .kept .1 .0))
 
--- src/lib.rt:116:1
 same-length : tie.Need-same-length
 same-length c = search needs
 
--- src/lib.rt:116:1
 returns-3 : tie.Need-returns-3
 returns-3 c =
     let a = c .before .before .before .before .before .before .before .before .before .before .before .before .before .args in

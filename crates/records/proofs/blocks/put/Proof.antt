@@ -1,7 +1,6 @@
+-- `put`: the bytes passed so far are laid into the buffer.
 use Rattle.records.proofs.blocks.put.Statement.{statement}
 use Rattle.records.proofs.blocks.put.Tie as tie
-use Rattle.records.proofs.blocks.put.Reads as reads
-use Rattle.records.proofs.blocks.put.Lts as lts
 use Prim.Native.Nat.{ℕ, _≤_, _<_, _-_, _+_}
 use mathlib.Core.List.{List}
 use mathlib.Core.Path.{_≡_, _∙_, ap, sym, refl}
@@ -21,31 +20,24 @@ abbrev μ-loop : tie.MeasureT-loop
 long : (c : tie.Start Inv-loop μ-loop) → length (c .args .t3) ≡ 16
 long c = search needs
 
--- src/blocks.rt:67:5
 loop-holds : tie.Need-loop-holds Inv-loop μ-loop
 loop-holds c = (search needs, paste-zero (c .args .buf .now) (c .args .at) (c .args .t3), refl)
 
--- src/blocks.rt:68:23
 array-read-buf : tie.Need-array-read-buf Inv-loop μ-loop
 array-read-buf c = search needs
 
--- src/blocks.rt:68:13
 add-buf : tie.Need-add-buf Inv-loop μ-loop
 add-buf c = search needs
 
--- src/blocks.rt:68:9
 slice-write-buf : tie.Need-slice-write-buf Inv-loop μ-loop
 slice-write-buf c = search needs
 
--- src/blocks.rt:67:9
 add-k : tie.Need-add-k Inv-loop μ-loop
 add-k c = search needs
 
--- src/blocks.rt:67:5
 loop-less : tie.Need-loop-less Inv-loop μ-loop
 loop-less c = search needs
 
--- src/blocks.rt:67:5
 loop-again : tie.Need-loop-again Inv-loop μ-loop
 loop-again c =
     let b = c .before .before in
@@ -59,11 +51,9 @@ loop-again c =
       simp length-set (c .before .loop .inv .2),
     )
 
--- src/blocks.rt:63:1
 same-length : tie.Need-same-length Inv-loop μ-loop
 same-length c = search needs
 
--- src/blocks.rt:63:1
 returns : tie.Need-returns Inv-loop μ-loop
 returns c =
     let b = c .before .before in

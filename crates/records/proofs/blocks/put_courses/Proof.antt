@@ -1,16 +1,12 @@
+-- `put_courses`: the blocks of the courses passed so far are laid behind the terms.
 use Rattle.records.proofs.blocks.put_courses.Statement.{statement}
 use Rattle.records.proofs.blocks.put_courses.Tie as tie
-use Rattle.records.proofs.blocks.put_courses.Reads as reads
-use Rattle.records.proofs.blocks.put_courses.Lts as lts
-use Rattle.records.proofs.blocks.course_bytes.Reads as course-bytes-reads
-use Rattle.records.proofs.blocks.put.Reads as put-reads
-use Prim.Native.Nat.{ℕ, _≤_, _<_, _-_, _+_, _*_}
+use Prim.Native.Nat.{ℕ, _≤_, _-_, _+_, _*_}
 use mathlib.Core.List.{List}
-use mathlib.Core.Path.{_≡_, _∙_, ap, ap₂, sym, refl}
+use mathlib.Core.Path.{_≡_, _∙_, ap, ap₂, refl}
 use native.Mathlib.Omega.{arith}
 use borrow.Author.Needs.{needs}
 use lib.ListN.{length}
-use Rattle.year.specs.Year.{courseAt}
 use Rattle.year.specs.Sound.{Sound}
 use Rattle.records.specs.Writing.{courseBlock, joined, laid}
 use Rattle.records.proofs.LayLaws as law
@@ -24,47 +20,37 @@ abbrev μ-loop : tie.MeasureT-loop
 sound : (c : tie.At-loop Inv-loop μ-loop) → Sound (c .before .before .args .t1)
 sound c = c .before .before .pre .0
 
--- src/blocks.rt:89:5
 loop-holds : tie.Need-loop-holds Inv-loop μ-loop
 unfolding joined
 loop-holds c = (search needs, law.laid-nothing (c .before .args .buf .now) (c .before .args .t1 .terms * 16), refl)
 
--- src/blocks.rt:92:14
 add-put : tie.Need-add-put Inv-loop μ-loop
 add-put c = omega (arith, sound (c .before .before))
 
--- src/blocks.rt:92:13
 mul-put : tie.Need-mul-put Inv-loop μ-loop
 mul-put c = omega (arith, sound (c .before .before))
 
--- src/blocks.rt:93:29
 mul-course-bytes : tie.Need-mul-course-bytes Inv-loop μ-loop
 mul-course-bytes c = omega (arith, sound (c .before .before))
 
--- src/blocks.rt:93:29
 element-copy-out-course-bytes : tie.Need-element-copy-out-course-bytes Inv-loop μ-loop
 element-copy-out-course-bytes c = omega (arith, sound (c .before .before))
 
--- src/blocks.rt:93:13
 course-bytes-requires : tie.Need-course-bytes-requires Inv-loop μ-loop
 course-bytes-requires c κs =
     let s = sound (c .before .before .before) in
     let h = s .course-sound (c .before .before .before .loop .i) (c .before .before .loop-test .taken) in
     (omega (arith, s .courses-most), omega (arith, h .weight-most))
 
--- src/blocks.rt:90:9
 put-requires : tie.Need-put-requires Inv-loop μ-loop
 put-requires c κs = omega (arith, c .before .before .before .before .loop .inv .2, c .before .before .before .before .before .before .pre .1)
 
--- src/blocks.rt:89:9
 add-i : tie.Need-add-i Inv-loop μ-loop
 add-i c = search needs
 
--- src/blocks.rt:89:5
 loop-less : tie.Need-loop-less Inv-loop μ-loop
 loop-less c = search needs
 
--- src/blocks.rt:89:5
 loop-again : tie.Need-loop-again Inv-loop μ-loop
 loop-again c =
     let a = c .before .before .before .before .before .before .before .before .before .args in
@@ -76,11 +62,9 @@ loop-again c =
     ∙ law.laid-block (a .buf .now) (y .terms * 16) (courseBlock y) i ((y .terms + i) * 16) (λ k. refl) (omega arith) (omega (arith, c .before .before .before .before .before .before .before .before .before .pre .1)) in
     (search needs, is, ap length is ∙ law.length-blocks (a .buf .now) (y .terms * 16) (courseBlock y) (i + 1) (λ k. refl) (omega (arith, c .before .before .before .before .before .before .before .before .before .pre .1)))
 
--- src/blocks.rt:84:1
 same-length : tie.Need-same-length Inv-loop μ-loop
 same-length c = search needs
 
--- src/blocks.rt:84:1
 returns : tie.Need-returns Inv-loop μ-loop
 returns c =
     let a = c .before .before .before .args in

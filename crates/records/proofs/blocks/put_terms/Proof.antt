@@ -1,16 +1,12 @@
+-- `put_terms`: the blocks of the terms passed so far are laid over the front of the buffer.
 use Rattle.records.proofs.blocks.put_terms.Statement.{statement}
 use Rattle.records.proofs.blocks.put_terms.Tie as tie
-use Rattle.records.proofs.blocks.put_terms.Reads as reads
-use Rattle.records.proofs.blocks.put_terms.Lts as lts
-use Rattle.records.proofs.blocks.put.Reads as put-reads
-use Rattle.records.proofs.blocks.term_bytes.Reads as term-bytes-reads
-use Prim.Native.Nat.{ℕ, _≤_, _<_, _-_, _+_, _*_}
+use Prim.Native.Nat.{ℕ, _≤_, _-_, _+_, _*_}
 use mathlib.Core.List.{List}
-use mathlib.Core.Path.{_≡_, _∙_, ap, ap₂, sym, refl}
+use mathlib.Core.Path.{_≡_, _∙_, ap, ap₂, refl}
 use native.Mathlib.Omega.{arith}
 use borrow.Author.Needs.{needs}
 use lib.ListN.{length}
-use Rattle.year.specs.Year.{termAt}
 use Rattle.year.specs.Sound.{Sound}
 use Rattle.records.specs.Writing.{termBlock, joined, laid}
 use Rattle.records.proofs.LayLaws as law
@@ -24,43 +20,34 @@ abbrev μ-loop : tie.MeasureT-loop
 sound : (c : tie.At-loop Inv-loop μ-loop) → Sound (c .before .before .args .t1)
 sound c = c .before .before .pre .0
 
--- src/blocks.rt:78:5
 loop-holds : tie.Need-loop-holds Inv-loop μ-loop
 unfolding joined
 loop-holds c = (search needs, law.laid-nothing (c .before .args .buf .now) 0, refl)
 
--- src/blocks.rt:79:18
 mul-put : tie.Need-mul-put Inv-loop μ-loop
 mul-put c = omega (arith, sound (c .before .before))
 
--- src/blocks.rt:79:44
 mul-term-bytes : tie.Need-mul-term-bytes Inv-loop μ-loop
 mul-term-bytes c = omega (arith, sound (c .before .before))
 
--- src/blocks.rt:79:44
 element-copy-out-term-bytes : tie.Need-element-copy-out-term-bytes Inv-loop μ-loop
 element-copy-out-term-bytes c = omega (arith, sound (c .before .before))
 
--- src/blocks.rt:79:30
 term-bytes-requires : tie.Need-term-bytes-requires Inv-loop μ-loop
 term-bytes-requires c κs =
     let s = sound (c .before .before .before) in
     let h = s .term-sound (c .before .before .before .loop .j) (c .before .before .loop-test .taken) in
     (omega (arith, s .terms-most), (omega (arith, h .credits-ordered, h .credits-most), omega (arith, h .credits-most), omega (arith, h .count-ordered, h .count-most), omega (arith, h .count-most)))
 
--- src/blocks.rt:79:9
 put-requires : tie.Need-put-requires Inv-loop μ-loop
 put-requires c κs = omega (arith, c .before .before .before .before .loop .inv .2, c .before .before .before .before .before .before .pre .1)
 
--- src/blocks.rt:78:9
 add-j : tie.Need-add-j Inv-loop μ-loop
 add-j c = search needs
 
--- src/blocks.rt:78:5
 loop-less : tie.Need-loop-less Inv-loop μ-loop
 loop-less c = search needs
 
--- src/blocks.rt:78:5
 loop-again : tie.Need-loop-again Inv-loop μ-loop
 loop-again c =
     let a = c .before .before .before .before .before .before .before .before .before .args in
@@ -72,11 +59,9 @@ loop-again c =
     ∙ law.laid-block (a .buf .now) 0 (termBlock y) j (j * 16) (λ k. refl) (omega arith) (omega (arith, c .before .before .before .before .before .before .before .before .before .pre .1)) in
     (search needs, is, ap length is ∙ law.length-blocks (a .buf .now) 0 (termBlock y) (j + 1) (λ k. refl) (omega (arith, c .before .before .before .before .before .before .before .before .before .pre .1)))
 
--- src/blocks.rt:73:1
 same-length : tie.Need-same-length Inv-loop μ-loop
 same-length c = search needs
 
--- src/blocks.rt:73:1
 returns : tie.Need-returns Inv-loop μ-loop
 returns c =
     let a = c .before .before .before .args in

@@ -1,7 +1,6 @@
+-- `blank_from`: the bytes passed so far are zero.
 use Rattle.records.proofs.bytes.blank_from.Statement.{statement}
 use Rattle.records.proofs.bytes.blank_from.Tie as tie
-use Rattle.records.proofs.bytes.blank_from.Reads as reads
-use Rattle.records.proofs.bytes.blank_from.Lts as lts
 use Prim.Native.Nat.{ℕ, _≤_, _-_}
 use mathlib.Core.Path.{_≡_, _∙_, ap, sym}
 use mathlib.Core.Bool.{Bool, _&&_}
@@ -16,36 +15,28 @@ Inv-loop s at k blank₀ i₀ i-end blank i = (i ≤ i-end) × (i-end ≡ 16 - k
 abbrev μ-loop : tie.MeasureT-loop
 μ-loop s at k blank₀ i₀ i-end blank i = i-end - i
 
--- src/bytes.rt:29:17
 sub-i-end : tie.Need-sub-i-end Inv-loop μ-loop
 sub-i-end c = search needs
 
--- src/bytes.rt:29:5
 loop-holds : tie.Need-loop-holds Inv-loop μ-loop
 unfolding all
 loop-holds c = search needs
 
--- src/bytes.rt:30:34
 add-blank : tie.Need-add-blank Inv-loop μ-loop
 add-blank c = search needs
 
--- src/bytes.rt:30:28
 add-blank-2 : tie.Need-add-blank-2 Inv-loop μ-loop
 add-blank-2 c = search needs
 
--- src/bytes.rt:30:26
 shared-slice-read-blank : tie.Need-shared-slice-read-blank Inv-loop μ-loop
 shared-slice-read-blank c = search needs
 
--- src/bytes.rt:29:9
 add-i : tie.Need-add-i Inv-loop μ-loop
 add-i c = search needs
 
--- src/bytes.rt:29:5
 loop-less : tie.Need-loop-less Inv-loop μ-loop
 loop-less c = search needs
 
--- src/bytes.rt:29:5
 loop-again : tie.Need-loop-again Inv-loop μ-loop
 loop-again c =
     let b = c .before .before .before in
@@ -53,7 +44,6 @@ loop-again c =
     let i = c .before .before .loop .i in
     (search needs, search needs, ap (λ (t : Bool). t && f i) (c .before .before .loop .inv .2) ∙ sym (all-more i f))
 
--- src/bytes.rt:23:1
 returns : tie.Need-returns Inv-loop μ-loop
 returns c =
     let b = c .before .before in

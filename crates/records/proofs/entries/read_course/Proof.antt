@@ -1,3 +1,4 @@
+-- `read_course`: each refusal is the first test of the definition that fails.
 use borrow.Author.Needs.{needs}
 use Prim.Native.Nat.{_+_}
 use mathlib.Core.Path.{_∙_, sym}
@@ -6,68 +7,50 @@ use borrow.Author.Tests.{not-true, not-false}
 use Rattle.records.specs.Reading.{courseRecord}
 use Rattle.records.proofs.entries.read_course.Statement.{statement}
 use Rattle.records.proofs.entries.read_course.Tie as tie
-use Rattle.records.proofs.entries.read_course.Reads as reads
-use Rattle.records.proofs.entries.read_course.Lts as lts
-use Rattle.records.proofs.bytes.blank_from.Reads as blank-from-reads
-use Rattle.records.proofs.bytes.word.Reads as word-reads
 
--- src/entries.rt:52:11
 add-if1 : tie.Need-add-if1
 add-if1 c = search needs
 
--- src/entries.rt:52:9
 shared-slice-read-if1 : tie.Need-shared-slice-read-if1
 shared-slice-read-if1 c = search needs
 
--- src/entries.rt:52:9
 cast-if1 : tie.Need-cast-if1
 cast-if1 c = omega (arith, c .shared-slice-known2 .given (c .before .before .args .at + 1))
 
--- src/entries.rt:53:9
 returns : tie.Need-returns
 unfolding courseRecord
 returns c = simp (c .if1 .taken)
 
--- src/entries.rt:56:9
 word-requires : tie.Need-word-requires
 word-requires c κs = search needs
 
--- src/entries.rt:57:9
 word-requires-2 : tie.Need-word-requires-2
 word-requires-2 c κs = search needs
 
--- src/entries.rt:59:9
 returns-2 : tie.Need-returns-2
 unfolding courseRecord
 returns-2 c = rw (← (c .before .before .before .word .ensures .0), ← (c .before .before .word2 .ensures .0)) (simp (c .before .before .before .before .if1 .left, c .if2 .taken))
 
--- src/entries.rt:61:31
 cast-if3 : tie.Need-cast-if3
 cast-if3 c = search needs
 
--- src/entries.rt:61:23
 shr-if3 : tie.Need-shr-if3
 shr-if3 c = search needs
 
--- src/entries.rt:62:9
 returns-3 : tie.Need-returns-3
 unfolding courseRecord
 returns-3 c = rw (← (c .before .before .before .before .word .ensures .0), ← (c .before .before .before .word2 .ensures .0)) (simp (c .before .before .before .before .before .if1 .left, c .before .if2 .left, c .if3 .taken))
 
--- src/entries.rt:64:9
 blank-from-requires : tie.Need-blank-from-requires
 blank-from-requires c κs = search needs
 
--- src/entries.rt:65:9
 returns-4 : tie.Need-returns-4
 unfolding courseRecord
 returns-4 c = rw (← (c .before .before .before .before .before .before .word .ensures .0), ← (c .before .before .before .before .before .word2 .ensures .0)) (simp (c .before .before .before .before .before .before .before .if1 .left, c .before .before .before .if2 .left, c .before .before .if3 .left, sym (c .before .blank-from .ensures) ∙ not-true _ (c .if4 .taken)))
 
--- src/entries.rt:69:15
 cast-t22 : tie.Need-cast-t22
 cast-t22 c = search needs
 
--- src/entries.rt:47:1
 returns-5 : tie.Need-returns-5
 unfolding courseRecord
 returns-5 c = rw (← (c .before .before .before .before .before .before .word .ensures .0), ← (c .before .before .before .before .before .word2 .ensures .0)) (simp (c .before .before .before .before .before .before .before .if1 .left, c .before .before .before .if2 .left, c .before .before .if3 .left, sym (c .before .blank-from .ensures) ∙ not-false _ (c .if4 .left)))

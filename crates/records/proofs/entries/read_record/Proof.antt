@@ -1,40 +1,30 @@
+-- `read_record`: the letter, and what stands before the record, choose the kind.
 use borrow.Author.Needs.{needs}
-use mathlib.Core.Path.{_∙_, sym}
+use mathlib.Core.Path.{_∙_}
 use Rattle.records.specs.Reading.{recordAt}
 use Rattle.records.proofs.entries.read_record.Statement.{statement}
 use Rattle.records.proofs.entries.read_record.Tie as tie
-use Rattle.records.proofs.entries.read_record.Reads as reads
-use Rattle.records.proofs.entries.read_record.Lts as lts
-use Rattle.records.proofs.entries.read_course.Reads as read-course-reads
-use Rattle.records.proofs.entries.read_term.Reads as read-term-reads
 
--- src/entries.rt:79:9
 shared-slice-read-if1 : tie.Need-shared-slice-read-if1
 shared-slice-read-if1 c = search needs
 
--- src/entries.rt:80:9
 read-term-requires : tie.Need-read-term-requires
 read-term-requires c κs = search needs
 
--- src/entries.rt:80:9
 returns : tie.Need-returns
 unfolding recordAt
 returns c = c .read-term .ensures ∙ simp (c .before .if1 .taken)
 
--- src/entries.rt:82:9
 shared-slice-read-if2 : tie.Need-shared-slice-read-if2
 shared-slice-read-if2 c = search needs
 
--- src/entries.rt:83:9
 read-course-requires : tie.Need-read-course-requires
 read-course-requires c κs = search needs
 
--- src/entries.rt:83:9
 returns-2 : tie.Need-returns-2
 unfolding recordAt
 returns-2 c = c .read-course .ensures ∙ simp (c .before .before .before .if1 .left, c .before .if2 .taken)
 
--- src/entries.rt:74:1
 returns-3 : tie.Need-returns-3
 unfolding recordAt
 returns-3 c = simp (c .before .before .if1 .left, c .if2 .left)
