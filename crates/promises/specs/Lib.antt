@@ -1,4 +1,4 @@
--- The promises. Read Narrowings, RoundsKept, SettledPlan, ImbalancePlan, Sequence and Rounds; the other modules lead up to them.
+-- The promises. Read Demands first, then Table and Unique; the other modules lead up to them.
 pub mod Rounds
 pub mod Kept
 pub mod Alike
@@ -16,4 +16,8 @@ pub mod RoundsKept
 pub mod OnePlacing
 pub mod SettledPlan
 pub mod ImbalancePlan
+pub mod RoundTrip
 pub mod Sequence
+pub mod Table
+pub mod Unique
+pub mod Demands
