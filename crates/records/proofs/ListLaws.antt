@@ -2,6 +2,7 @@
 use Prim.Native.Nat.{ℕ, zero, suc, _+_, _-_, _*_, _/_, _%_, _≤_, _<_}
 use mathlib.Core.Bool.{Bool, true, false, not, _||_}
 use mathlib.Core.List.{List}
+use mathlib.Core.Logic.{_⊎_, inl, inr}
 use mathlib.Core.Path.{_≡_, refl, sym, ap, _∙_}
 use native.Mathlib.Nat.{add-zero, add-suc}
 use native.Mathlib.Omega.{arith}
@@ -12,7 +13,7 @@ use lib.Seq.{getD-set-same, getD-set-other}
 use borrow.Author.Tests.{eqb-true, eqb-false, not-false}
 use Rattle.theory.specs.Choice.{choose}
 use Rattle.theory.specs.Tests.{or-false}
-use Rattle.year.specs.Year.{termAt, courseAt, zeroTerm, zeroCourse}
+use Rattle.year.specs.Year.{termAt, courseAt, zeroTerm, zeroCourse, emptyYear}
 use Rattle.year.specs.Sound.{TermSound, CourseSound, Sound}
 use Rattle.year.specs.declared.Term.{Term}
 use Rattle.year.specs.declared.Course.{Course}
@@ -86,6 +87,37 @@ module _ (s : List ℕ) (P : ℕ → Year → Type 0) (start : P 0 blankYear)
       let b = done-before s k z e in
       let y = readTo s k .year in
       step k y z (recordIn s k y) (read-keeps k y b) refl (sym (read-more s k y b) ∙ e)
+
+-- ---- a refusal is the first fault
+
+-- record k has the fault, and the records before it were read
+pub record FirstFault (s : List ℕ) (f : Fault) (k : ℕ) : Type 0 where
+  pub so-far : Year
+  pub read-before : readTo s k ≡ done so-far
+  pub fault-here : recordIn s k so-far ≡ Faulty f
+
+fault-in : (s : List ℕ) (m : ℕ) (y : Year) (f : Fault) (k : ℕ) → readTo s m ≡ done y → (r : Record) → recordIn s m y ≡ r → taken y m r .answer ≡ Refused f k → (k ≤ m) × FirstFault s f k
+fault-in s m y f k b (OfTerm t) q e = let x : _≡_ {A = ℕ} 0 1 = cc in absurd (omega arith)
+fault-in s m y f k b (OfCourse c) q e = let x : _≡_ {A = ℕ} 0 1 = cc in absurd (omega arith)
+fault-in s m y f k b (Faulty g) q e =
+    let at : m ≡ k = cc in
+    let of : Faulty g ≡ Faulty f = cc in
+    (omega arith, record { so-far = y; read-before = rw (sym at) b; fault-here = rw (sym at) (q ∙ of) })
+
+pub first-fault : (s : List ℕ) (m : ℕ) (f : Fault) (k : ℕ) → readTo s m .answer ≡ Refused f k → (k < m) × FirstFault s f k
+unfolding readTo
+first-fault s zero f k e = let x : _≡_ {A = ℕ} 0 1 = cc in absurd (omega arith)
+first-fault s (suc m) f k e = go (readTo s m .answer) refl (first-fault s m f k)
+  where
+    go : (a : Reading) → readTo s m .answer ≡ a → (readTo s m .answer ≡ Refused f k → (k < m) × FirstFault s f k) → (k < suc m) × FirstFault s f k
+    go Done p ih =
+        let y = readTo s m .year in
+        let b : readTo s m ≡ done y = λ i. record { answer = p i; year = y } in
+        let r = fault-in s m y f k b (recordIn s m y) refl (sym (ap (λ (r : Received). r .answer) (read-more s m y b)) ∙ e) in
+        (omega (arith, r .0), r .1)
+    go (Refused g n) p ih =
+        let r = ih (p ∙ rw p at e) in
+        (omega (arith, r .0), r .1)
 
 -- ---- the first k records give the front of a sound year
 
@@ -184,6 +216,18 @@ list-read s y e = go (badLength (length s)) refl e
         let some : length s ≡ 0 → ⊥ = eqb-false _ _ (or-false (eqb (length s) 0) (ltb 1280 (length s)) (q .0) .0) in
         let whole : length s % 16 ≡ 0 = eqb-true _ _ (not-false _ (q .1)) in
         (omega (arith, some), omega arith, e)
+
+-- a list that was refused: by its length, or at its first record with a fault; the year is the empty one
+pub list-refused : (s : List ℕ) (f : Fault) (k : ℕ) → readList s .answer ≡ Refused f k → (readList s ≡ refused f k) × ((badLength (length s) ≡ true) ⊎ ((badLength (length s) ≡ false) × FirstFault s f k))
+unfolding readList
+list-refused s f k e = go (badLength (length s)) refl e
+  where
+    go : (b : Bool) → badLength (length s) ≡ b → choose b (refused fault.Length 0) (readTo s (length s / 16)) .answer ≡ Refused f k → (choose b (refused fault.Length 0) (readTo s (length s / 16)) ≡ refused f k) × ((b ≡ true) ⊎ ((b ≡ false) × FirstFault s f k))
+    go true p e = (λ i. record { answer = e i; year = emptyYear }, inl refl)
+    go false p e =
+        let r = first-fault s (length s / 16) f k e in
+        let here : readTo s (suc k) ≡ refused f k = read-more s k (r .1 .so-far) (r .1 .read-before) ∙ ap (taken (r .1 .so-far) k) (r .1 .fault-here) in
+        (refused-stays s (suc k) (length s / 16) f k (omega (arith, r .0)) here, inr (refl, r .1))
 
 -- a year that was read is sound
 pub read-sound : (s : List ℕ) (y : Year) → readList s ≡ done y → Sound y

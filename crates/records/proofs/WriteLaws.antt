@@ -1,13 +1,17 @@
 -- How long the records of a year are, and the three endings of a writing.
 use Prim.Native.Nat.{ℕ, _+_, _*_, _≤_, _<_}
-use mathlib.Core.Bool.{true, false}
+use mathlib.Core.Bool.{Bool, true, false, _&&_}
 use mathlib.Core.List.{List, _++_}
 use mathlib.Core.Path.{_≡_, refl, ap, _∙_}
 use native.Mathlib.Nat.{zero-add}
 use native.Mathlib.Omega.{arith}
-use lib.ListN.{length, drop, length-append}
+use lib.Dec.{leb}
+use lib.ListN.{length, take, drop, length-append}
+use lib.Seq.{take-append-seam, drop-append-seam}
 use borrow.Author.Tests.{le-leb, lt-leb}
+use Rattle.theory.specs.Choice.{choose}
 use Rattle.year.specs.Sound.{isSound, Sound}
+use Rattle.year.proofs.SoundLaws.{sound-to}
 use Rattle.year.specs.declared.Year.{Year}
 use Rattle.records.specs.declared.Writing.the-variants.{Done, Unsound, Short}
 use Rattle.records.specs.Writing.{termBlock, courseBlock, joined, recordsOf, laid, writeAnswer, written}
@@ -49,3 +53,28 @@ write-done y b e h =
     let all : laid (laid b 0 t) (y .terms * 16) d ≡ (t ++ d) ++ drop (length (t ++ d)) b =
     ap (λ (k : ℕ). laid (laid b 0 t) k d) at ∙ laid-more b 0 t (omega arith) d ∙ laid-front b (t ++ d) in
     (rw (e, n) refl, rw (e, n) all)
+
+-- ---- the buffer afterwards
+
+-- a sound year and room enough: the records, and behind them what stood there
+pub written-is : (y : Year) (b : List ℕ) → Sound y → length (recordsOf y) ≤ length b → written y b ≡ recordsOf y ++ drop (length (recordsOf y)) b
+unfolding written
+written-is y b s h = rw (sound-to y s, le-leb (length (recordsOf y)) (length b) h) refl
+
+pub written-front : (y : Year) (b : List ℕ) → Sound y → length (recordsOf y) ≤ length b → take (length (recordsOf y)) (written y b) ≡ recordsOf y
+written-front y b s h =
+    ap (take (length (recordsOf y))) (written-is y b s h) ∙ take-append-seam (recordsOf y) (drop (length (recordsOf y)) b)
+
+pub written-behind : (y : Year) (b : List ℕ) → Sound y → length (recordsOf y) ≤ length b → drop (length (recordsOf y)) (written y b) ≡ drop (length (recordsOf y)) b
+written-behind y b s h =
+    ap (drop (length (recordsOf y))) (written-is y b s h) ∙ drop-append-seam (recordsOf y) (drop (length (recordsOf y)) b)
+
+-- refused, the buffer is as it was
+pub unwritten : (y : Year) (b : List ℕ) → (writeAnswer y (length b) ≡ Done → ⊥) → written y b ≡ b
+unfolding writeAnswer written
+unwritten y b h = go (isSound y) (leb (length (recordsOf y)) (length b)) h
+  where
+    go : (s l : Bool) → (choose s (choose l Done Short) Unsound ≡ Done → ⊥) → choose (s && l) (recordsOf y ++ drop (length (recordsOf y)) b) b ≡ b
+    go true true h = absurd (h refl)
+    go true false h = refl
+    go false l h = refl
