@@ -1,17 +1,6 @@
 -- The promises. Read Demands first, then Table and Unique; the other modules lead up to them.
 pub mod Rounds
-pub mod Kept
-pub mod Alike
-pub mod DoorPlans
 pub mod Narrowings
-pub mod Reading
-pub mod PlanSums
-pub mod OutcomeKept
-pub mod KeptOver
-pub mod BoundsKept
-pub mod ListsKept
-pub mod SparesKept
-pub mod PackingKept
 pub mod RoundsKept
 pub mod OnePlacing
 pub mod SettledPlan

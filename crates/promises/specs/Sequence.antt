@@ -21,7 +21,7 @@ use Rattle.rules.specs.Step.{live}
 use Rattle.filter.specs.Filter.{filterOf}
 use Rattle.filter.specs.Numbers.{filterNumber}
 use Rattle.promises.specs.Rounds.{filter-whole}
-use Rattle.promises.specs.Alike.{Alike, alike-rest, alike-then, alike-whole, credits-alike, count-alike}
+use Rattle.rules.proofs.Alike.{Alike, alike-rest, alike-then, alike-whole, credits-alike, count-alike}
 use Rattle.promises.specs.Narrowings.{Narrow, place, bar, raiseLowCredits, lowerHighCredits, raiseLowCount, lowerHighCount, narrow, Meets, narrows}
 use Rattle.promises.specs.RoundsKept.{filter-kept}
 use Rattle.promises.specs.RoundTrip.{wrote, written-reads}

@@ -1,5 +1,5 @@
 -- The paper's proved table: twelve rows, one statement, by computation. Rows 6 to 9 at the rule's own function.
-use Prim.Native.Nat.{ℕ, zero, suc, _+_, _/_}
+use Prim.Native.Nat.{ℕ, zero, suc}
 use mathlib.Core.Bool.{Bool, true, false}
 use mathlib.Core.List.{List, [], _∷_, _++_}
 use mathlib.Core.Path.{_≡_, refl}
@@ -19,7 +19,6 @@ use Rattle.year.specs.Tight.{creditsWithin, countsWithin}
 use Rattle.year.specs.Narrow.{barOf}
 use Rattle.year.specs.Imbalance.{largest, smallest, onePlan, spreadOf, imbalanceOf}
 use Rattle.year.specs.Numbers.{narrowingNumber, imbalanceNumber, imbalanceValue}
-use Rattle.year.specs.declared.Term.{Term}
 use Rattle.year.specs.declared.Year.{Year}
 use Rattle.records.specs.Numbers.{readingNumber}
 use Rattle.records.specs.Reading.{termRecord, courseRecord, recordAt, readTo, readList}
@@ -27,11 +26,11 @@ use Rattle.rules.specs.Step.{outcome, overTo}
 use Rattle.rules.specs.Bounds.{rule1, rule2, rule4, rule5}
 use Rattle.rules.specs.Lists.{verdict3, rule3Course, rule3, verdict10, rule10Course, rule10}
 use Rattle.rules.specs.Spares.{spares, blocked, charged, walkOf, down, up, rule6, rule7, rule8, rule9}
-use Rattle.rules.specs.Packing.{room, shares, roundedUp, rule11}
+use Rattle.rules.specs.Packing.{shares, rule11}
 use Rattle.rules.specs.Round.{round}
+use Rattle.rules.specs.Examples.{yearOf, six, seven, three, leastCount, largestQuotient}
 use Rattle.filter.specs.Filter.{roundsFrom, filterOf}
 use Rattle.filter.specs.Numbers.{filterNumber, filterRule, filterRounds, isSettled}
-use Rattle.filter.specs.Examples.{yearOf}
 use Rattle.filter.specs.declared.Filtered.{Filtered}
 
 -- ---- answers as rows of numbers
@@ -51,14 +50,6 @@ said r =
     ++ termsTo (r .year) (r .year .terms)
     ++ coursesTo (r .year) (r .year .courses)
 
--- the least count that rule 6 gives term 0
-abbrev pub leastCount : Year → ℕ
-leastCount y = rule6 y 0 .term .least .0
-
--- the largest rounded quotient that rule 11 meets
-abbrev pub largestQuotient : Year → ℕ
-largestQuotient y = largest (room y / 2 + 1) (λ t. roundedUp (shares y (room y) t) (room y))
-
 -- a term record of credits 0 to 1,000 and count 0 to 1, and a course of weight w = 256 * a + b in it
 abbrev pub listed : ℕ → ℕ → List ℕ
 listed a b = 84 ∷ 0 ∷ 0 ∷ 0 ∷ 3 ∷ 232 ∷ 0 ∷ 0 ∷ 0 ∷ 1 ∷ replicate 6 0 ++ 67 ∷ 0 ∷ a ∷ b ∷ 0 ∷ 1 ∷ replicate 10 0
@@ -70,23 +61,6 @@ readNumber a b = readingNumber (readList (listed a b) .answer)
 
 abbrev pub E : Year
 E = yearOf (termOf 0 4 0 3 ∷ termOf 0 6 0 3 ∷ []) (courseOf 4 3 ∷ courseOf 3 3 ∷ courseOf 2 3 ∷ [])
-
-abbrev pub wide : List Term
-wide = termOf 0 64000 0 64 ∷ []
-
-abbrev pub six : Year
-six =
-    yearOf (termOf 20 64000 0 64 ∷ wide)
-    (courseOf 3 1 ∷ courseOf 7 1 ∷ courseOf 3 3 ∷ courseOf 3 3 ∷ courseOf 4 3 ∷ courseOf 5 3 ∷ courseOf 7 3 ∷ [])
-
-abbrev pub seven : Year
-seven =
-    yearOf (termOf 5 64000 0 64 ∷ termOf 0 64000 2 64 ∷ wide)
-    (courseOf 3 3 ∷ courseOf 3 3 ∷ courseOf 3 3 ∷ courseOf 1 5 ∷ courseOf 1 5 ∷ [])
-
--- three courses of a weight, in two empty terms of 0 to 10 credits
-abbrev pub three : ℕ → Year
-three w = yearOf (termOf 0 10 0 64 ∷ termOf 0 10 0 64 ∷ []) (courseOf w 3 ∷ courseOf w 3 ∷ courseOf w 3 ∷ [])
 
 -- course 0 lists term 0 alone, of two terms
 abbrev pub last : Year

@@ -17,15 +17,15 @@ use Rattle.year.specs.Sound.{Sound}
 use Rattle.year.specs.declared.Course.{Course}
 use Rattle.year.specs.declared.Year.{Year}
 use Rattle.year.proofs.DoorLaws.{course-same, course-other}
 use Rattle.rules.specs.Step.{live, dead, judged, overCourses}
 use Rattle.rules.specs.Lists.{verdict3, rule3Course, rule3, full, needed, verdict10, rule10Course, rule10}
 use Rattle.rules.specs.declared.Verdict.{Verdict}
 use Rattle.rules.specs.declared.Verdict.the-variants.{Stays, Struck, Fixed}
 use Rattle.rules.proofs.Steps.{lawful-3, lawful-10}
-use Rattle.promises.specs.Kept.{Kept}
-use Rattle.promises.specs.KeptOver.{kept-rest, kept-dead, kept-over, Sized, sized-stays}
-use Rattle.promises.specs.DoorPlans.{placed-plans, struck-plans}
-use Rattle.promises.specs.PlanSums.{open-facts, credits-with, credits-without, count-floor, count-roof, count-with, count-without, count-halves}
+use Rattle.rules.proofs.Kept.{Kept}
+use Rattle.rules.proofs.KeptOver.{kept-rest, kept-dead, kept-over, Sized, sized-stays}
+use Rattle.rules.proofs.DoorPlans.{placed-plans, struck-plans}
+use Rattle.rules.proofs.PlanSums.{open-facts, credits-with, credits-without, count-floor, count-roof, count-with, count-without, count-halves}
 
 -- ---- one course
 

@@ -10,10 +10,10 @@ use Rattle.theory.specs.Choice.{choose-case}
 use Rattle.year.specs.Plans.{Placing, Plan}
 use Rattle.year.specs.Sound.{Sound}
 use Rattle.year.specs.declared.Year.{Year}
 use Rattle.rules.specs.Step.{step, live, dead, next, overTo, overTerms}
 use Rattle.rules.specs.declared.Step.{Step}
 use Rattle.rules.proofs.Whole.{Whole}
-use Rattle.promises.specs.Kept.{Kept}
+use Rattle.rules.proofs.Kept.{Kept}
 
 -- nothing is done
 pub kept-rest : (y : Year) → Kept y (live y)

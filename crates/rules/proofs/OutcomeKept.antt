@@ -12,9 +12,9 @@ use Rattle.year.specs.Plans.{Placing, creditsIn, countIn, Plan}
 use Rattle.year.specs.Sound.{Sound}
 use Rattle.year.specs.declared.Tight.{Tight}
 use Rattle.year.specs.declared.Year.{Year}
 use Rattle.rules.specs.Step.{outcome, outcomeOf, put}
-use Rattle.promises.specs.Kept.{Kept}
-use Rattle.promises.specs.DoorPlans.{credits-plans, counts-plans}
+use Rattle.rules.proofs.Kept.{Kept}
+use Rattle.rules.proofs.DoorPlans.{credits-plans, counts-plans}
 
 -- the tighter bounds w of term j under rule r, of which `fails` is what the rule itself calls no plan
 module _ (y : Year) (j r : ℕ) (fails : Bool) (w : Tight) (rule : r ≡ 0 → ⊥)

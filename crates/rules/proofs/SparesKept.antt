@@ -23,12 +23,12 @@ use Rattle.year.specs.Plans.{Placing, creditsIn, countIn, Plan}
 use Rattle.year.specs.Sound.{Sound}
 use Rattle.year.specs.declared.Term.{Term}
 use Rattle.year.specs.declared.Year.{Year}
 use Rattle.rules.specs.Step.{put}
 use Rattle.rules.specs.Spares.{spare, spares, blocks, blocked, less, charged, table, openAt, openOf, down, up, walkOf, rule6, rule7, rule8, rule9}
 use Rattle.rules.specs.declared.Until.the-variants as until
-use Rattle.promises.specs.Kept.{Kept}
-use Rattle.promises.specs.OutcomeKept.{credits-kept, counts-kept}
-use Rattle.promises.specs.Reading.{listsAt, fixedAt, alone, ins, fix}
+use Rattle.rules.proofs.Kept.{Kept}
+use Rattle.rules.proofs.OutcomeKept.{credits-kept, counts-kept}
+use Rattle.rules.proofs.Reading.{listsAt, fixedAt, alone, ins, fix}
 
 -- ---- the table of spares is one that the theory asks for
 

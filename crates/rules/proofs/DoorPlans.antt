@@ -17,7 +17,7 @@ use Rattle.year.specs.declared.Term.{Term}
 use Rattle.year.specs.declared.Course.{Course}
 use Rattle.year.specs.declared.Year.{Year}
 use Rattle.year.proofs.DoorLaws.{term-same, term-other, course-same, course-other}
-use Rattle.promises.specs.Alike.{alike-list, credits-alike}
+use Rattle.rules.proofs.Alike.{alike-list, credits-alike}
 
 -- ---- the bounds of a term
 

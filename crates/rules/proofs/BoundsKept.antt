@@ -12,11 +12,11 @@ use Rattle.year.specs.Sums.{fixedCredits, possibleCredits, fixedCount, openCoun
 use Rattle.year.specs.Plans.{Placing, creditsIn, countIn, Plan}
 use Rattle.year.specs.Sound.{Sound}
 use Rattle.year.specs.declared.Year.{Year}
 use Rattle.rules.specs.Step.{put}
 use Rattle.rules.specs.Bounds.{rule1, rule2, rule4, rule5}
-use Rattle.promises.specs.Kept.{Kept}
-use Rattle.promises.specs.OutcomeKept.{credits-kept, counts-kept}
-use Rattle.promises.specs.PlanSums.{credits-floor, credits-roof, count-floor, count-roof}
+use Rattle.rules.proofs.Kept.{Kept}
+use Rattle.rules.proofs.OutcomeKept.{credits-kept, counts-kept}
+use Rattle.rules.proofs.PlanSums.{credits-floor, credits-roof, count-floor, count-roof}
 
 -- S and n less the other terms' bounds
 module _ (y : Year) (p : Placing) (plan : Plan y p) (j : ℕ) (l : j < y .terms) where

@@ -17,12 +17,12 @@ use Rattle.year.specs.Imbalance.{largest}
 use Rattle.year.specs.Plans.{Placing, creditsIn, Plan}
 use Rattle.year.specs.Sound.{Sound}
 use Rattle.year.specs.declared.Year.{Year}
 use Rattle.rules.specs.Step.{live, dead}
 use Rattle.rules.specs.Packing.{burst, room, shares, roundedUp, bursts, rule11}
-use Rattle.promises.specs.Kept.{Kept}
-use Rattle.promises.specs.KeptOver.{kept-rest, kept-dead}
-use Rattle.promises.specs.Reading.{fix}
-use Rattle.promises.specs.PlanSums.{credits-floor}
+use Rattle.rules.proofs.Kept.{Kept}
+use Rattle.rules.proofs.KeptOver.{kept-rest, kept-dead}
+use Rattle.rules.proofs.Reading.{fix}
+use Rattle.rules.proofs.PlanSums.{credits-floor}
 
 largest-above : (n : ℕ) (f : ℕ → ℕ) (k : ℕ) → k < n → f k ≤ largest n f
 unfolding largest

@@ -12,7 +12,7 @@ use Rattle.year.specs.Sums.{fixedCredits, openCredits, possibleCredits, fixedCo
 use Rattle.year.specs.Plans.{Placing, creditsIn, countIn, Plan}
 use Rattle.year.specs.declared.Course.{Course}
 use Rattle.year.specs.declared.Year.{Year}
-use Rattle.promises.specs.Reading.{fixed-lists, ins, fix}
+use Rattle.rules.proofs.Reading.{fixed-lists, ins, fix}
 
 -- ---- a course and a term
 
