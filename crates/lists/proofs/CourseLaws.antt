@@ -1,17 +1,17 @@
 -- The courses of a term, one after the other: what the steps leave alone, and what the code carries along.
 use Prim.Native.Nat.{ℕ, zero, suc, _+_, _≤_, _<_}
-use mathlib.Core.Bool.{Bool, true, false, _||_, or-true, or-false, true≢false}
+use mathlib.Core.Bool.{Bool, true, false, or-true, or-false, true≢false}
 use mathlib.Core.Path.{_≡_, refl, sym, ap, ap₂, _∙_, subst}
 use native.Mathlib.Omega.{arith}
-use Rattle.year.specs.Year.{termAt, courseAt, weight, isOpen, placed, struck, withList}
-use Rattle.year.specs.Sums.{fixedCredits, openCredits, possibleCredits}
+use Rattle.year.specs.Year.{termAt, courseAt, weight, isOpen, placed, struck}
+use Rattle.year.specs.Sums.{fixedCredits, possibleCredits}
 use Rattle.year.specs.Sound.{Sound}
 use Rattle.year.specs.declared.Course.{Course}
 use Rattle.year.specs.declared.Term.{Term}
 use Rattle.year.specs.declared.Year.{Year}
 use Rattle.year.proofs.DoorLaws.{course-other}
 use Rattle.year.proofs.SumLaws.{possible-le, all-credits-le}
-use Rattle.rules.specs.Step.{step, live, judged, next, overTo, over-more}
+use Rattle.rules.specs.Step.{live, judged, next, overTo, over-more}
 use Rattle.rules.specs.Lists.{verdict3, rule3Course, verdict10, rule10Course}
 use Rattle.rules.specs.declared.Step.{Step}
 use Rattle.rules.specs.declared.Verdict.{Verdict}

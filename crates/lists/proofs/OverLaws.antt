@@ -11,12 +11,12 @@ use borrow.Author.Tests.{ltb-false, ne-eqb}
 use Rattle.theory.specs.Choice.{choose, choose-any}
 use Rattle.theory.specs.Tab.{tab, getD-tab}
 use Rattle.year.specs.Year.{termAt, lowCredits}
-use Rattle.year.specs.Sums.{openWeight, fixedCredits, openCredits, fixedCount, openCount, sumsAt, noSums}
+use Rattle.year.specs.Sums.{openWeight, fixedCredits, fixedCount, openCount, sumsAt, noSums}
 use Rattle.year.specs.Sound.{Sound}
 use Rattle.year.specs.declared.Sums.{Sums}
 use Rattle.year.specs.declared.Year.{Year}
 use Rattle.year.proofs.SumLaws.{sums-read, possible-le, all-credits-le, counts-le}
-use Rattle.rules.specs.Step.{step, live, dead, next, overTo, over-more, overCourses, overTerms, summed, stepOf}
+use Rattle.rules.specs.Step.{step, live, next, overTo, over-more, overTerms, summed, stepOf}
 use Rattle.rules.specs.Lists.{rule3, rule10}
 use Rattle.rules.specs.declared.Step.{Step}
 use Rattle.rules.specs.declared.State.{State}

@@ -1,11 +1,11 @@
 -- p and P of a term after a course that is open there was struck from it, or fixed in it.
 use Prim.Native.Nat.{ℕ, _+_, _-_, _^_, _≤_, _<_}
-use mathlib.Core.Bool.{Bool, true, false, not, _&&_, true≢false, and-false}
+use mathlib.Core.Bool.{true, false, not, _&&_, true≢false, and-false}
 use mathlib.Core.Path.{_≡_, refl, sym, ap, _∙_}
 use native.Mathlib.Omega.{arith}
 use lib.Dec.{eqb}
 use borrow.Author.Tests.{eq-eqb, ne-eqb}
-use Rattle.theory.specs.Sum.{pick, sum, sum-change, sum-term-le}
+use Rattle.theory.specs.Sum.{pick, sum-change, sum-term-le}
 use Rattle.theory.specs.Tests.{and-true}
 use Rattle.theory.specs.Bits.{has, has-struck, has-power}
 use Rattle.year.specs.Year.{courseAt, weight, list, lists, isFixed, isOpen, withList, placed, struck}

@@ -2,10 +2,10 @@
 use Prim.Native.Nat.{ℕ, zero, suc, _+_, _-_, _≤_, _<_}
 use mathlib.Core.Bool.{Bool, true, false, _&&_, _||_, or-true, or-false}
 use mathlib.Core.List.{List}
-use mathlib.Core.Path.{_≡_, refl, sym, ap, ap₂, _∙_, subst}
+use mathlib.Core.Path.{_≡_, refl, sym, ap, _∙_}
 use native.Mathlib.Nat.{le-refl}
 use native.Mathlib.Omega.{arith}
-use lib.Dec.{eqb, leb, ltb}
+use lib.Dec.{leb, ltb}
 use borrow.Author.Tests.{le-ltb, leb-true}
 use Rattle.theory.specs.Choice.{choose, choose-any}
 use Rattle.theory.specs.Tab.{tab}
@@ -14,12 +14,12 @@ use Rattle.year.specs.Sums.{openWeight, fixedCredits, openCredits, possibleCred
 use Rattle.year.specs.Sound.{Sound}
 use Rattle.year.specs.declared.Sums.{Sums}
 use Rattle.year.specs.declared.Year.{Year}
-use Rattle.rules.specs.Step.{step, live, dead, judged, next, overTo, overCourses, summed, stepOf}
+use Rattle.rules.specs.Step.{live, dead, judged, next, overTo, overCourses, summed, stepOf}
 use Rattle.rules.specs.Lists.{verdict3, rule3Course, rule3, full, needed, verdict10, rule10Course, rule10}
 use Rattle.rules.specs.declared.Step.{Step}
 use Rattle.rules.specs.declared.State.{State}
 use Rattle.rules.specs.declared.Verdict.the-variants.{Stays}
-use Rattle.rules.proofs.Whole.{Whole, whole-rest, whole-over, joined}
+use Rattle.rules.proofs.Whole.{whole-rest, whole-over, joined}
 use Rattle.lists.specs.Judge.{keptOf, judgeCourse, judge3, judge10, judgeTerm}
 use Rattle.lists.specs.declared.Judge.{Judge}
 use Rattle.lists.specs.declared.Judge.the-variants.{Rests, Credits, Counts, Fails}

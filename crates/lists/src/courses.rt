@@ -12,7 +12,7 @@ ghost use Prim.Native.Nat.{_<_};
 ghost use Rattle.year.specs.Year.{courseAt, isOpen, placed, struck};
 ghost use Rattle.year.specs.Sums.{sumsAt};
 ghost use Rattle.year.specs.Sound.{Sound};
-ghost use Rattle.rules.specs.Step.{step, live, overCourses};
+ghost use Rattle.rules.specs.Step.{live, overCourses};
 ghost use Rattle.lists.specs.Judge.{kept, keptOf, judgeCourse};
 
 // Term j struck from the list of course i, which is open there: its weight is no longer possible.

@@ -5,7 +5,7 @@ use year::Course;
 use year::Term;
 use year::totals;
 ghost use mathlib.Core.Path.{_≡_};
-ghost use Prim.Native.Nat.{_+_, _-_, _≤_, _<_};
+ghost use Prim.Native.Nat.{_+_, _-_, _<_};
 ghost use Rattle.rules.specs.Lists.{verdict3, verdict10};
 ghost use Rattle.lists.specs.Judge.{verdictOf};
 

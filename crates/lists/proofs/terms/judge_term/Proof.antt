@@ -1,6 +1,6 @@
 -- A term that fails, one where nothing was altered, and one whose sums are computed anew.
 use mathlib.Core.List.{[], _∷_}
-use mathlib.Core.Path.{_≡_, _∙_}
+use mathlib.Core.Path.{_≡_}
 use types.Run.{miss}
 use borrow.Author.Needs.{needs}
 use borrow.Author.Tests.{not-true, not-false}

@@ -2,9 +2,9 @@
 use Prim.Native.Nat.{ℕ, _≤_, _-_}
 use mathlib.Core.Path.{_≡_, sym, ap, ap₂, _∙_}
 use native.Mathlib.Omega.{arith}
-use lib.ListN.{length, replicate, set, length-replicate}
+use lib.ListN.{replicate, set, length-replicate}
 use borrow.Author.Needs.{needs}
-use Rattle.theory.specs.Tab.{fill, fill-more, fill-all, length-fill}
+use Rattle.theory.specs.Tab.{fill, fill-more, fill-all}
 use Rattle.lists.specs.Tops.{topWith}
 use Rattle.lists.proofs.tops.with_course.Statement.{statement}
 use Rattle.lists.proofs.tops.with_course.Tie as tie
@@ -32,10 +32,7 @@ mul-r : tie.Need-mul-r Inv-loop μ-loop
 mul-r c = search needs
 
 array-write-r : tie.Need-array-write-r Inv-loop μ-loop
-array-write-r c =
-    let l = c .before .before in
-    let b = l .before in
-    omega (arith, ap length (l .loop .inv .1), length-fill (topWith (b .args .t1) (b .args .c)) (replicate 16 0) (l .loop .k), length-replicate {A = ℕ} 16 0)
+array-write-r c = search needs
 
 add-k : tie.Need-add-k Inv-loop μ-loop
 add-k c = search needs
