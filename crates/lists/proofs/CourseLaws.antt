@@ -55,7 +55,7 @@ turn : (w : Judge) (j : ℕ) (s : Step) (i : ℕ) (v : Verdict) → s .rule ≡ 
 unfolding judgeCourse
 turn w j s i v r e = rw (r, e)
 
--- only a course that is open has a verdict
+-- only an open course has a verdict
 verdict-rests : (w : Judge) (c : Course) (t : Term) (p P j : ℕ) → isOpen c j ≡ false → verdictOf w c t p P j ≡ Stays
 unfolding verdict3 verdict10
 verdict-rests Rests c t p P j e = refl

@@ -60,7 +60,7 @@ top-most y zero j s h = omega arith
 top-most y (suc n) j s h =
     omega (arith, top-most y n j s (omega arith), pick-le (isOpen (courseAt y n) j) (weight y n), s .course-sound n (omega arith) .weight-most)
 
--- a course that is open in a later year was open before
+-- a course that is open in a later year was open before it
 module _ (y : Year) (t : Step) (w : Whole y t) (i j : ℕ) (h : i < y .courses) where
   was-open : isOpen (courseAt (t .year) i) j ≡ true → isOpen (courseAt y i) j ≡ true
   was-open e =

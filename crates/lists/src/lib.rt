@@ -41,7 +41,7 @@ pub fn rule_3(s: State) -> State
     let top = tops::tops(year);
     let mut z = s;
     for j in 0..year.terms {
-        // no term is altered
+        // the rule alters lists only, no bounds
         let t = year.term[j];
         let w = terms::judge_3(t, z.sums[j], top[j]);
         if let Judge::Rests = w {} else {
@@ -64,7 +64,7 @@ pub fn rule_10(s: State) -> State
     let mut z = s;
     let mut j = 0;
     while (j < year.terms) & (z.rule == 0) {
-        // no term is altered
+        // the rule alters lists only, no bounds
         let t = year.term[j];
         let w = terms::judge_10(t, z.sums[j]);
         if let Judge::Rests = w {} else {

@@ -1,4 +1,4 @@
-// The heaviest course that is open in each term. Lists only shrink, so it bounds the open courses of every later year as well.
+// The weight of the heaviest course that is open in each term. Lists only shrink, so it bounds the open courses of every later year as well.
 use year::Course;
 use year::Year;
 use year::totals;
@@ -23,7 +23,7 @@ fn heavier(top: u32, c: Course, k: usize) -> u32
     }
 }
 
-// All sixteen, with one course more.
+// All sixteen weights, with one course more.
 fn with_course(top: [u32; 16], c: Course) -> [u32; 16]
     ensures { λ r. ⌜ r ≡ tab 16 (topWith top c) ⌝ }
 {
@@ -34,6 +34,7 @@ fn with_course(top: [u32; 16], c: Course) -> [u32; 16]
     r
 }
 
+// All sixteen, over all courses.
 pub fn tops(y: Year) -> [u32; 16]
     requires { ⌜ Sound y ⌝ }
     ensures { λ r. ⌜ r ≡ tab 16 (topAt y) ⌝ }

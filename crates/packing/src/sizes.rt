@@ -1,4 +1,5 @@
-// Sizes: each open course's weight, and for each term what of the room it lacks or has in use. What they count for at t, and at most.
+// Sizes: the weight of each course with several terms, and for each term what of the room c is not free there.
+// What they count for at t, and the most that they count for at any t.
 use year::Course;
 use year::Sums;
 use year::Year;
@@ -55,7 +56,7 @@ fn less(a: u32, b: u32) -> u32
     if a < b { 0 } else { a - b }
 }
 
-// What a size counts for at t.
+// What a size counts for at t: all of c above c - t, nothing below t, itself between.
 fn share(c: u32, t: u32, x: u32) -> u32
     requires { ⌜ t ≤ c ⌝ }
     ensures { λ r. ⌜ (r ≡ share c t x) × (r ≤ c) ⌝ }
@@ -79,6 +80,7 @@ fn capped(c: u32, x: u32) -> u32
     x
 }
 
+// What all sizes count for at t.
 fn share_sum(x: &[u32], c: u32, t: u32) -> u32
     requires { ⌜ (length (now x) ≤ 64) × (c ≤ 64000) × (t ≤ c) ⌝ }
     ensures { λ r. ⌜ (r ≡ shareSum (now (x .entry)) c t) × (r ≤ 4096000) ⌝ }
@@ -90,6 +92,7 @@ fn share_sum(x: &[u32], c: u32, t: u32) -> u32
     sum
 }
 
+// The most that all sizes count for at any t up to half of c.
 fn cap_sum(x: &[u32], c: u32) -> u32
     requires { ⌜ (length (now x) ≤ 64) × (c ≤ 64000) ⌝ }
     ensures { λ r. ⌜ (r ≡ capSum (now (x .entry)) c) × (r ≤ 4096000) ⌝ }
