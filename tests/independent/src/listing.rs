@@ -28,7 +28,10 @@ pub fn of_answer(answer: Answer, year: Option<&Year>) -> String {
 }
 
 fn of_year(year: Option<&Year>) -> String {
-    let Some(year) = year else { return String::new() };
+    let year = match year {
+        Some(year) => year,
+        None => return String::new(),
+    };
     let mut text = String::new();
     for (j, t) in year.terms.iter().enumerate() {
         let (low, high) = (t.low_credits, t.high_credits);

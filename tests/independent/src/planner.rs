@@ -77,7 +77,10 @@ impl Planner for Independent {
         if out.len() < list.len() {
             return (9, 0);
         }
-        let Some(narrowing) = Narrowing::of_kind(kind, a, b) else { return (10, 0) };
+        let narrowing = match Narrowing::of_kind(kind, a, b) {
+            Some(narrowing) => narrowing,
+            None => return (10, 0),
+        };
         let (number, narrowed) = narrow(&year, narrowing);
         if number == 0 {
             records::write(&narrowed, out);

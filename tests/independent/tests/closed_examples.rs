@@ -36,7 +36,10 @@ fn every_listing_on_the_page() {
             no_plans.push(numbers.split(' ').next().unwrap().to_string());
         }
         for line in section.lines() {
-            let Some(rules) = line.strip_prefix("Listing with rules ") else { continue };
+            let rules = match line.strip_prefix("Listing with rules ") {
+                Some(rules) => rules,
+                None => continue,
+            };
             let rules = rules.trim_end_matches(':').split(", ").map(|rule| rule.parse().unwrap());
             let (answer, year) =
                 filter_by(&read(&list).unwrap(), &rules.collect::<Vec<u8>>(), Trap::None);

@@ -16,9 +16,12 @@ fn main() -> ExitCode {
     let lists = arguments.next().map_or(Ok(1_000), |text| text.parse());
     let seed = arguments.next().map_or(Ok(1), |text| text.parse());
     let kinds = arguments.next().map_or(Ok(KINDS.to_vec()), |name| kind_named(&name));
-    let (Ok(lists), Ok(seed), Ok(kinds)) = (lists, seed, kinds) else {
-        eprintln!("usage: independent-compare [LISTS [SEED [KIND]]], KIND one of {KINDS:?}");
-        return ExitCode::from(2);
+    let (lists, seed, kinds) = match (lists, seed, kinds) {
+        (Ok(lists), Ok(seed), Ok(kinds)) => (lists, seed, kinds),
+        _ => {
+            eprintln!("usage: independent-compare [LISTS [SEED [KIND]]], KIND one of {KINDS:?}");
+            return ExitCode::from(2);
+        }
     };
     let clock = SystemTime::now().duration_since(UNIX_EPOCH).map_or(0, |d| d.as_nanos() as u64);
     let mut failed = false;

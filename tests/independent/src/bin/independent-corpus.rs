@@ -21,7 +21,10 @@ fn main() -> ExitCode {
 }
 
 fn lists(arguments: &[String]) -> Option<Vec<u8>> {
-    let [kind, count, seed] = arguments else { return None };
+    let (kind, count, seed) = match arguments {
+        [kind, count, seed] => (kind, count, seed),
+        _ => return None,
+    };
     let count: u64 = count.parse().ok()?;
     let mut random = Random::new(seed.parse().ok()?);
     let mut bytes = vec![];

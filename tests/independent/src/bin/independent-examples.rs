@@ -209,7 +209,10 @@ fn before_rule(year: &Year, rules: &[u8]) -> Option<Year> {
 /// Whether a rule strikes and whether it fixes in round 1: a list of several terms
 /// that falls to one by a strike counts as a strike.
 fn rule_3_does(year: &Year) -> (bool, bool) {
-    let Some(mut now) = before_rule(year, &[1, 2]) else { return (false, false) };
+    let mut now = match before_rule(year, &[1, 2]) {
+        Some(now) => now,
+        None => return (false, false),
+    };
     let (mut strikes, mut fixes) = (false, false);
     for j in 0..now.terms.len() {
         let was = now.clone();
@@ -222,8 +225,9 @@ fn rule_3_does(year: &Year) -> (bool, bool) {
 }
 
 fn rule_10_does(year: &Year) -> (bool, bool) {
-    let Some(mut now) = before_rule(year, &[1, 2, 3, 4, 5, 6, 7, 8, 9]) else {
-        return (false, false);
+    let mut now = match before_rule(year, &[1, 2, 3, 4, 5, 6, 7, 8, 9]) {
+        Some(now) => now,
+        None => return (false, false),
     };
     let (mut strikes, mut fixes) = (false, false);
     for j in 0..now.terms.len() {
@@ -249,14 +253,20 @@ fn note_changes(was: &Year, now: &Year, j: usize, strikes: &mut bool, fixes: &mu
 }
 
 fn p_exceeds_at_rule_11(year: &Year) -> bool {
-    let Some(now) = before_rule(year, &[1, 2, 3, 4, 5, 6, 7, 8, 9, 10]) else { return false };
+    let now = match before_rule(year, &[1, 2, 3, 4, 5, 6, 7, 8, 9, 10]) {
+        Some(now) => now,
+        None => return false,
+    };
     (0..now.terms.len()).any(|j| rules::small_p(&now, j) > now.terms[j].high_credits)
 }
 
 /// Without rule 4, rule 6 of round 1 goes through on a year with a spare below 0,
 /// and would not have gone through had the test been for 0 or less.
 fn spare_slips(year: &Year) -> bool {
-    let Some(now) = before_rule(year, &[1, 2, 3, 5]) else { return false };
+    let now = match before_rule(year, &[1, 2, 3, 5]) {
+        Some(now) => now,
+        None => return false,
+    };
     let mut after = now.clone();
     if run_rule(&mut after, 6, Trap::None).is_err() {
         return false;
