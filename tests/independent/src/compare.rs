@@ -4,6 +4,7 @@
 
 use std::collections::BTreeMap;
 use std::fmt;
+use std::ops::Range;
 
 use crate::filter::Answer;
 use crate::generate::{self, Kind, Random, KINDS};
@@ -33,6 +34,16 @@ pub struct Counts {
 impl Counts {
     fn add(&mut self, kind: Kind, outcome: String) {
         *self.by_kind.entry(format!("{kind:?}")).or_default().entry(outcome).or_default() += 1;
+    }
+
+    /// Adds what was seen elsewhere.
+    pub fn join(&mut self, other: Counts) {
+        for (kind, outcomes) in other.by_kind {
+            let own = self.by_kind.entry(kind).or_default();
+            for (outcome, number) in outcomes {
+                *own.entry(outcome).or_default() += number;
+            }
+        }
     }
 
     /// The number seen of an outcome, over all kinds.
@@ -104,21 +115,21 @@ pub fn run_kinds(
 ) -> Result<Counts, Box<Mismatch>> {
     let mut counts = Counts::default();
     for &kind in kinds {
-        run_kind(left, right, kind, lists, seed, &mut counts)?;
+        run_kind(left, right, kind, 0..lists, seed, &mut counts)?;
     }
     Ok(counts)
 }
 
-/// Runs so many lists of one kind from a seed.
+/// Runs the lists of one kind that have these numbers, from a seed.
 pub fn run_kind(
     left: &dyn Planner,
     right: &dyn Planner,
     kind: Kind,
-    lists: u64,
+    lists: Range<u64>,
     seed: u64,
     counts: &mut Counts,
 ) -> Result<(), Box<Mismatch>> {
-    for index in 0..lists {
+    for index in lists {
         let mut random = Random::for_list(seed, kind, index);
         let list = generate::list(kind, &mut random);
         counts.add(kind, " lists".to_string());
