@@ -4,7 +4,6 @@ use Prim.Native.Nat.{ℕ}
 use mathlib.Core.Bool.{true, false}
 use mathlib.Core.List.{List, [], _∷_, _++_}
 use mathlib.Core.Path.{_≡_, refl}
-use lib.ListN.{replicate, take, length}
 use Rattle.theory.specs.Sum.{sum}
 use Rattle.theory.specs.Tests.{any, all}
 use Rattle.theory.specs.Tab.{tab}
@@ -26,17 +25,10 @@ use Rattle.rules.specs.Lists.{verdict3, rule3Course, rule3, verdict10, rule10Co
 use Rattle.rules.specs.Spares.{spares, blocked, charged, walkOf, down, up, rule6, rule7, rule8, rule9}
 use Rattle.rules.specs.Packing.{shares, rule11}
 use Rattle.rules.specs.Round.{round}
+use Rattle.rules.specs.Examples.{yearOf}
 use Rattle.filter.specs.Filter.{filtered, roundsFrom, filterOf}
 use Rattle.filter.specs.declared.Filtered.{Filtered}
 use Rattle.filter.specs.declared.Answer.the-variants.{Settled, Open, NoPlan, Unsound}
-
--- ---- years by their terms and courses
-
-abbrev padded : {A : Type 0} → ℕ → A → List A → List A
-padded n a l = take n (l ++ replicate n a)
-
-abbrev pub yearOf : List Term → List Course → Year
-yearOf ts cs = record { terms = length ts; courses = length cs; term = padded 16 zeroTerm ts; course = padded 64 zeroCourse cs }
 
 -- ---- examples
 

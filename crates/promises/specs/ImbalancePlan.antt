@@ -15,7 +15,7 @@ use Rattle.year.specs.declared.Term.{Term}
 use Rattle.year.specs.declared.Year.{Year}
 use Rattle.year.specs.declared.Measured.the-variants.{Imbalance, Unsettled}
 use Rattle.year.proofs.SoundLaws.{sound-to}
-use Rattle.promises.specs.DoorPlans.{Holds, holds-of, plan-of}
+use Rattle.rules.proofs.DoorPlans.{Holds, holds-of, plan-of}
 use Rattle.promises.specs.OnePlacing.{PlacedBy, placed-within, placed-listed, credits-are, counts-are}
 use Rattle.promises.specs.SettledPlan.{all-placed}
 

@@ -1,19 +1,12 @@
--- The promises. Read Narrowings, RoundsKept, SettledPlan, ImbalancePlan, Sequence and Rounds; the other modules lead up to them.
+-- The promises. Read Demands first, then Table and Unique; the other modules lead up to them.
 pub mod Rounds
-pub mod Kept
-pub mod Alike
-pub mod DoorPlans
 pub mod Narrowings
-pub mod Reading
-pub mod PlanSums
-pub mod OutcomeKept
-pub mod KeptOver
-pub mod BoundsKept
-pub mod ListsKept
-pub mod SparesKept
-pub mod PackingKept
 pub mod RoundsKept
 pub mod OnePlacing
 pub mod SettledPlan
 pub mod ImbalancePlan
+pub mod RoundTrip
 pub mod Sequence
+pub mod Table
+pub mod Unique
+pub mod Demands

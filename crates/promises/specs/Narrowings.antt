@@ -23,8 +23,8 @@ use Rattle.year.specs.declared.Narrowing.the-variants.{Done, Unsound, Missing, 
 use Rattle.year.specs.declared.Narrowed.{Narrowed}
 use Rattle.year.proofs.SoundLaws.{sound-of}
 use Rattle.year.proofs.DoorLaws.{with-term-sound, placed-sound, struck-sound}
-use Rattle.promises.specs.Alike.{Alike, alike-rest, alike-list}
-use Rattle.promises.specs.DoorPlans.{credits-plans, counts-plans, placed-plans, struck-plans}
+use Rattle.rules.proofs.Alike.{Alike, alike-rest, alike-list}
+use Rattle.rules.proofs.DoorPlans.{credits-plans, counts-plans, placed-plans, struck-plans}
 
 -- ---- the calls
 

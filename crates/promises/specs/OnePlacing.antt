@@ -28,10 +28,10 @@ use Rattle.rules.specs.Round.{bounded, round}
 use Rattle.rules.specs.declared.Step.{Step}
 use Rattle.rules.proofs.Whole.{Whole, whole-rest, whole-next}
 use Rattle.rules.proofs.Steps.{whole-1, whole-2, whole-3, whole-4, whole-5, whole-6, whole-7, whole-8, whole-9, whole-10, whole-11, whole-round}
-use Rattle.promises.specs.Alike.{alike-whole, credits-alike, count-alike}
-use Rattle.promises.specs.KeptOver.{AtTerms}
-use Rattle.promises.specs.DoorPlans.{Holds, plan-of}
-use Rattle.promises.specs.PlanSums.{halves}
+use Rattle.rules.proofs.Alike.{alike-whole, credits-alike, count-alike}
+use Rattle.rules.proofs.KeptOver.{AtTerms}
+use Rattle.rules.proofs.DoorPlans.{Holds, plan-of}
+use Rattle.rules.proofs.PlanSums.{halves}
 
 -- each course of the year has one term, the one where p puts it
 abbrev pub PlacedBy : Year → Placing → Type 0

@@ -24,12 +24,12 @@ use Rattle.filter.specs.Numbers.{filterNumber}
 use Rattle.filter.specs.declared.Answer.the-variants.{Settled, Open, Unsound}
 use Rattle.filter.specs.declared.Filtered.{Filtered}
 use Rattle.promises.specs.Rounds.{Altering, none, more, altering-whole, Ends, no-plan, at-rest, filtering}
-use Rattle.promises.specs.Kept.{Kept}
-use Rattle.promises.specs.KeptOver.{kept-rest, kept-next, AtTerms, kept-terms}
-use Rattle.promises.specs.BoundsKept.{rule1-kept, rule2-kept, rule4-kept, rule5-kept}
-use Rattle.promises.specs.ListsKept.{rule3-kept, rule10-kept}
-use Rattle.promises.specs.SparesKept.{rule6-kept, rule7-kept, rule8-kept, rule9-kept}
-use Rattle.promises.specs.PackingKept.{rule11-kept}
+use Rattle.rules.proofs.Kept.{Kept}
+use Rattle.rules.proofs.KeptOver.{kept-rest, kept-next, AtTerms, kept-terms}
+use Rattle.rules.proofs.BoundsKept.{rule1-kept, rule2-kept, rule4-kept, rule5-kept}
+use Rattle.rules.proofs.ListsKept.{rule3-kept, rule10-kept}
+use Rattle.rules.proofs.SparesKept.{rule6-kept, rule7-kept, rule8-kept, rule9-kept}
+use Rattle.rules.proofs.PackingKept.{rule11-kept}
 
 -- ---- a round
 

@@ -3,35 +3,50 @@
 use Prim.Native.Nat.{ℕ}
 use mathlib.Core.List.{List, [], _∷_}
 use mathlib.Core.Logic.{_↔_}
-use mathlib.Core.Path.{_≡_, sym, subst}
+use mathlib.Core.Path.{_≡_, refl, sym, ap, subst, _∙_}
 use native.Mathlib.Omega.{arith}
 use native.Mathlib.Decide.{ℕ-discrete}
+use lib.Dec.{eqb}
+use lib.ListN.{length, take}
+use borrow.Author.Tests.{eqb-true}
+use Rattle.theory.specs.Choice.{choose, choose-case}
 use Rattle.year.specs.Numbers.{narrowingNumber}
 use Rattle.year.specs.Plans.{Placing, Plan}
 use Rattle.year.specs.Sound.{Sound}
 use Rattle.year.specs.declared.Year.{Year}
+use Rattle.records.specs.Numbers.{writingNumber}
+use Rattle.records.specs.Reading.{readList}
+use Rattle.records.specs.Writing.{recordsOf, writeAnswer, written}
 use Rattle.rules.specs.Step.{live}
 use Rattle.filter.specs.Filter.{filterOf}
 use Rattle.filter.specs.Numbers.{filterNumber}
 use Rattle.promises.specs.Rounds.{filter-whole}
-use Rattle.promises.specs.Alike.{Alike, alike-rest, alike-then, alike-whole, credits-alike, count-alike}
+use Rattle.rules.proofs.Alike.{Alike, alike-rest, alike-then, alike-whole, credits-alike, count-alike}
 use Rattle.promises.specs.Narrowings.{Narrow, place, bar, raiseLowCredits, lowerHighCredits, raiseLowCount, lowerHighCount, narrow, Meets, narrows}
 use Rattle.promises.specs.RoundsKept.{filter-kept}
+use Rattle.promises.specs.RoundTrip.{wrote, written-reads}
 
 -- ---- calls
 
+-- a narrowing, a filtering, or a writing into a buffer from which the records are then read back
 pub data Call : Type 0 where
   narrowing : Narrow → Call
   filtering : Call
+  writing : List ℕ → Call
 
 -- what a call gives back: the paper's number, and the year
 pub record Given : Type 0 where
   pub number : ℕ
   pub year : Year
 
+-- the year that is read from the front of the buffer, or the year itself where nothing was written
+abbrev pub readBack : Year → List ℕ → Year
+readBack y b = choose (eqb (writingNumber (writeAnswer y (length b))) 0) (readList (take (length (recordsOf y)) (written y b)) .year) y
+
 abbrev pub given : Call → Year → Given
 given (narrowing n) y = record { number = narrowingNumber (narrow n y .answer); year = narrow n y .year }
 given filtering y = record { number = filterNumber (filterOf y .answer); year = filterOf y .year }
+given (writing b) y = record { number = writingNumber (writeAnswer y (length b)); year = readBack y b }
 
 -- the year in hand after the calls, the first of which is the head of the list
 abbrev pub after : List Call → Year → Year
@@ -44,6 +59,7 @@ after (c ∷ cs) y = after cs (given c y .year)
 abbrev pub Asks : Year → Call → ℕ → Placing → Type 0
 Asks first (narrowing n) number p = number ≡ 0 → Meets first n p
 Asks first filtering number p = Unit {0}
+Asks first (writing b) number p = Unit {0}
 
 -- every accepted narrowing of the calls made from the year y on
 abbrev pub MeetsAll : Year → List Call → Year → Placing → Type 0
@@ -59,6 +75,13 @@ meets-alike first y (raiseLowCredits j v) p a = let e = credits-alike first y p 
 meets-alike first y (lowerHighCredits j v) p a = let e = credits-alike first y p a j in (λ h. omega arith, λ h. omega arith)
 meets-alike first y (raiseLowCount j v) p a = let e = count-alike first y p a j in (λ h. omega arith, λ h. omega arith)
 meets-alike first y (lowerHighCount j v) p a = let e = count-alike first y p a j in (λ h. omega arith, λ h. omega arith)
+
+-- what was written reads back to the same year
+read-back : (y : Year) (b : List ℕ) → Sound y → readBack y b ≡ y
+read-back y b s =
+    choose-case (λ z. z ≡ y) (eqb (writingNumber (writeAnswer y (length b))) 0) (readList (take (length (recordsOf y)) (written y b)) .year) y
+    (λ e. ap (λ l. readList l .year) (wrote y b .front (eqb-true (writingNumber (writeAnswer y (length b))) 0 e)) ∙ ap (λ r. r .year) (written-reads y s))
+    (λ e. refl)
 
 -- what is shown of a call on a year y that is like the first
 record Called (first : Year) (c : Call) (y : Year) : Type 0 where
@@ -83,6 +106,13 @@ called first filtering y s a =
       sound = w .sound;
       alike = alike-whole y (live (filterOf y .year)) w;
       plans = λ p. (λ h. (filter-kept y .plans p .0 h, tt), λ h. filter-kept y .plans p .1 (h .0));
+    }
+called first (writing b) y s a =
+    let e = read-back y b s in
+    record {
+      sound = subst Sound (sym e) s;
+      alike = subst (Alike y) (sym e) (alike-rest y);
+      plans = λ p. (λ h. (subst (λ z. Plan z p) e h, tt), λ h. subst (λ z. Plan z p) (sym e) (h .0));
     }
 
 -- ---- all calls

@@ -20,8 +20,8 @@ use Rattle.filter.specs.Filter.{filterOf}
 use Rattle.filter.specs.Numbers.{filterNumber, isSettled}
 use Rattle.filter.specs.declared.Filtered.{Filtered}
 use Rattle.promises.specs.Rounds.{Altering, altering-whole, Ends, no-plan, at-rest, filtering}
-use Rattle.promises.specs.Reading.{fixed-lists}
-use Rattle.promises.specs.PlanSums.{fixed-listed}
+use Rattle.rules.proofs.Reading.{fixed-lists}
+use Rattle.rules.proofs.PlanSums.{fixed-listed}
 use Rattle.promises.specs.RoundsKept.{filter-kept}
 use Rattle.promises.specs.OnePlacing.{PlacedBy, placed-within, placed-stays, round-plan}
 

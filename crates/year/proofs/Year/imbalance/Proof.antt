@@ -12,6 +12,13 @@ use Rattle.year.proofs.SpreadLaws.{smallest-le-largest}
 use Rattle.year.proofs.Year.imbalance.Statement.{statement}
 use Rattle.year.proofs.Year.imbalance.Tie as tie
 
+is-sound-requires : tie.Need-is-sound-requires
+is-sound-requires c κs = search needs
+
+returns : tie.Need-returns
+unfolding imbalanceOf
+returns c = simp (sym (c .before .is-sound .ensures) ∙ not-true _ (c .if1 .taken))
+
 -- past the first refusal the year is sound
 test : (c : tie.Else1) → isSound (c .before .before .args .self) ≡ true
 test c = sym (c .before .is-sound .ensures) ∙ not-false _ (c .if1 .left)
@@ -23,13 +30,6 @@ sound c = sound-of (c .before .before .args .self) (test c)
 plan : (c : tie.After-all-fit) → onePlan (c .before .before .before .before .before .args .self) ≡ c .before .all-placed .result && c .all-fit .result
 unfolding onePlan
 plan c = sym (ap₂ _&&_ (c .before .all-placed .ensures) (c .all-fit .ensures))
-
-is-sound-requires : tie.Need-is-sound-requires
-is-sound-requires c κs = search needs
-
-returns : tie.Need-returns
-unfolding imbalanceOf
-returns c = simp (sym (c .before .is-sound .ensures) ∙ not-true _ (c .if1 .taken))
 
 sums-of-requires : tie.Need-sums-of-requires
 sums-of-requires c κs = sound c

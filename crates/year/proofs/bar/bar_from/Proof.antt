@@ -7,10 +7,6 @@ use Rattle.year.specs.Year.{courseAt, lists}
 use Rattle.year.proofs.bar.bar_from.Statement.{statement}
 use Rattle.year.proofs.bar.bar_from.Tie as tie
 
--- past the first refusal the term is listed
-listed : (c : tie.Else1) → lists (courseAt (c .before .before .before .args .t1) (c .before .before .before .args .i)) (c .before .before .before .args .j) ≡ true
-listed c = sym (c .before .lists .ensures) ∙ not-false _ (c .if1 .left)
-
 mul-c : tie.Need-mul-c
 mul-c c = search needs
 
@@ -22,6 +18,10 @@ lists-requires c κs = search needs
 
 returns : tie.Need-returns
 returns c = simp (sym (c .before .lists .ensures) ∙ not-true _ (c .if1 .taken))
+
+-- past the first refusal the term is listed
+listed : (c : tie.Else1) → lists (courseAt (c .before .before .before .args .t1) (c .before .before .before .args .i)) (c .before .before .before .args .j) ≡ true
+listed c = sym (c .before .lists .ensures) ∙ not-false _ (c .if1 .left)
 
 power-requires : tie.Need-power-requires
 power-requires c κs = search needs

@@ -9,15 +9,15 @@ use Rattle.year.proofs.SoundLaws.{sound-of}
 use Rattle.year.proofs.limits.bound.Statement.{statement}
 use Rattle.year.proofs.limits.bound.Tie as tie
 
--- past the first refusal the year is sound
-sound : (c : tie.Else1) → isSound (c .before .before .args .y) ≡ true
-sound c = sym (c .before .is-sound .ensures) ∙ not-false _ (c .if1 .left)
-
 is-sound-requires : tie.Need-is-sound-requires
 is-sound-requires c κs = search needs
 
 returns : tie.Need-returns
 returns c = simp (sym (c .before .is-sound .ensures) ∙ not-true _ (c .if1 .taken))
+
+-- past the first refusal the year is sound
+sound : (c : tie.Else1) → isSound (c .before .before .args .y) ≡ true
+sound c = sym (c .before .is-sound .ensures) ∙ not-false _ (c .if1 .left)
 
 returns-2 : tie.Need-returns-2
 returns-2 c = simp (sound (c .before .before), le-leb _ _ (c .if2 .taken))

@@ -36,7 +36,10 @@ loop-less c = search needs
 
 loop-again : tie.Need-loop-again Inv-loop μ-loop
 loop-again c =
-    let l = c .before .before .before in (search needs, ap₂ _&&_ (l .loop .inv .1) (c .course-good .ensures) ∙ sym (all-more (l .loop .i) (courseGood (l .before .args .t1))))
+    let l = c .before .before .before in
+    let y = l .before .args .t1 in
+    let one : c .course-good .result ≡ courseGood y (l .loop .i) = c .course-good .ensures in
+    (search needs, ap₂ _&&_ (l .loop .inv .1) one ∙ sym (all-more (l .loop .i) (courseGood y)))
 
 returns : tie.Need-returns Inv-loop μ-loop
 returns c =

@@ -1,0 +1,7 @@
+-- Laws about records.
+pub mod EntryLaws
+pub mod ListLaws
+pub mod LayLaws
+pub mod WriteLaws
+pub mod ReadWrite
+pub mod WriteRead

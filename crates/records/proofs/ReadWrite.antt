@@ -1,0 +1,172 @@
+-- What was read is written back byte for byte.
+use Prim.Native.Nat.{ℕ, zero, suc, _+_, _-_, _*_, _/_, _%_, _≤_, _<_}
+use mathlib.Core.Bool.{true}
+use mathlib.Core.List.{List, _++_, append-assoc, append-nil}
+use mathlib.Core.Path.{_≡_, refl, sym, ap, ap₂, _∙_}
+use native.Mathlib.Nat.{add-zero}
+use native.Mathlib.Omega.{arith}
+use lib.Dec.{lit<}
+use lib.ListN.{length, getD, take, drop, length-drop}
+use lib.Seq.{ext-getD, length-take-le, getD-take, getD-drop, getD-set-same, getD-set-other, take-add, take-length}
+use borrow.Author.Tests.{eqb-true}
+use Rattle.theory.specs.Tab.{tab, length-tab, getD-tab}
+use Rattle.theory.specs.Tests.{all-at}
+use Rattle.year.specs.Year.{zeroTerm, zeroCourse}
+use Rattle.year.specs.declared.Term.{Term}
+use Rattle.year.specs.declared.Course.{Course}
+use Rattle.year.specs.declared.Year.{Year}
+use Rattle.records.specs.declared.Record.the-variants.{OfTerm, OfCourse}
+use Rattle.records.specs.Bytes.{letterAt, byteAt, wordAt, blankAt, blankFrom, AllBytes}
+use Rattle.records.specs.Reading.{blankYear, addTerm, addCourse, done, readList}
+use Rattle.records.specs.Writing.{termBytes, courseBytes, termBlock, courseBlock, joined, recordsOf}
+use Rattle.records.proofs.EntryLaws.{termIn, courseIn, TermRead, CourseRead, record-term, record-course}
+use Rattle.records.proofs.LayLaws.{joined-more}
+use Rattle.records.proofs.ListLaws.{recordIn, Front, front-start, front-term, front-course, read-keeps, list-read}
+
+-- ---- sixteen bytes of a list
+
+taken-bytes : (s : List ℕ) (at n : ℕ) → at + n ≤ length s → take n (drop at s) ≡ tab n (byteAt s at)
+taken-bytes s at n h =
+    let long : length (take n (drop at s)) ≡ n = length-take-le n (drop at s) (omega (arith, length-drop at s)) in
+    ext-getD 0 (take n (drop at s)) (tab n (byteAt s at)) (long ∙ sym (length-tab n (byteAt s at)))
+    (λ i l.
+    let m : i < n = omega arith in
+    getD-take n (drop at s) i 0 m ∙ getD-drop at s i 0 ∙ sym (getD-tab n (byteAt s at) 0 i m))
+
+-- a byte that must be zero is
+blank-byte : (s : List ℕ) (at k i : ℕ) → blankFrom s at k ≡ true → i < 16 - k → byteAt s at (k + i) ≡ 0
+blank-byte s at k i e h = eqb-true _ _ (all-at (16 - k) (blankAt s at k) e i h)
+
+-- the two bytes of a number
+high-byte : (a b : ℕ) → b < 256 → a ≡ (a * 256 + b) / 256
+high-byte a b h = omega arith
+
+low-byte : (a b : ℕ) → b < 256 → b ≡ (a * 256 + b) % 256
+low-byte a b h = omega arith
+
+module _ (s : List ℕ) (at : ℕ) (fits : at + 16 ≤ length s) (bytes : AllBytes s) where
+  high : (k : ℕ) → k < 15 → byteAt s at k ≡ wordAt s at k / 256
+  high k h = high-byte (byteAt s at k) (byteAt s at (k + 1)) (bytes (at + (k + 1)) (omega arith))
+
+  low : (k : ℕ) → k < 15 → byteAt s at (k + 1) ≡ wordAt s at k % 256
+  low k h = low-byte (byteAt s at k) (byteAt s at (k + 1)) (bytes (at + (k + 1)) (omega arith))
+
+  letter : (x : ℕ) → letterAt s at ≡ x → byteAt s at 0 ≡ x
+  letter x e = ap (λ (n : ℕ). getD s n 0) (add-zero at) ∙ e
+
+  pub term-back : (n : ℕ) (t : Term) → letterAt s at ≡ 84 → TermRead s at n t → take 16 (drop at s) ≡ termBytes n t
+  unfolding tab
+  term-back n t e r =
+      let b0 = letter 84 e in
+      let b2 = high 2 (lit< tt) in
+      let b3 = low 2 (lit< tt) in
+      let b4 = high 4 (lit< tt) in
+      let b5 = low 4 (lit< tt) in
+      let b6 = high 6 (lit< tt) in
+      let b7 = low 6 (lit< tt) in
+      let b8 = high 8 (lit< tt) in
+      let b9 = low 8 (lit< tt) in
+      let z0 = blank-byte s at 10 0 (r .blank) (lit< tt) in
+      let z1 = blank-byte s at 10 1 (r .blank) (lit< tt) in
+      let z2 = blank-byte s at 10 2 (r .blank) (lit< tt) in
+      let z3 = blank-byte s at 10 3 (r .blank) (lit< tt) in
+      let z4 = blank-byte s at 10 4 (r .blank) (lit< tt) in
+      let z5 = blank-byte s at 10 5 (r .blank) (lit< tt) in
+      let is : tab 16 (byteAt s at) ≡ termBytes n (termIn s at) = cc (r .number) in
+      taken-bytes s at 16 fits ∙ is ∙ ap (termBytes n) (r .holds)
+
+  pub course-back : (n terms : ℕ) (c : Course) → letterAt s at ≡ 67 → CourseRead s at n terms c → take 16 (drop at s) ≡ courseBytes n c
+  unfolding tab
+  course-back n terms c e r =
+      let b0 = letter 67 e in
+      let b2 = high 2 (lit< tt) in
+      let b3 = low 2 (lit< tt) in
+      let b4 = high 4 (lit< tt) in
+      let b5 = low 4 (lit< tt) in
+      let z0 = blank-byte s at 6 0 (r .blank) (lit< tt) in
+      let z1 = blank-byte s at 6 1 (r .blank) (lit< tt) in
+      let z2 = blank-byte s at 6 2 (r .blank) (lit< tt) in
+      let z3 = blank-byte s at 6 3 (r .blank) (lit< tt) in
+      let z4 = blank-byte s at 6 4 (r .blank) (lit< tt) in
+      let z5 = blank-byte s at 6 5 (r .blank) (lit< tt) in
+      let z6 = blank-byte s at 6 6 (r .blank) (lit< tt) in
+      let z7 = blank-byte s at 6 7 (r .blank) (lit< tt) in
+      let z8 = blank-byte s at 6 8 (r .blank) (lit< tt) in
+      let z9 = blank-byte s at 6 9 (r .blank) (lit< tt) in
+      let is : tab 16 (byteAt s at) ≡ courseBytes n (courseIn s at) = cc (r .number) in
+      taken-bytes s at 16 fits ∙ is ∙ ap (courseBytes n) (r .holds)
+
+-- ---- the records of a year with one more
+
+joined-same : (f g : ℕ → List ℕ) (n : ℕ) → ((i : ℕ) → i < n → f i ≡ g i) → joined f n ≡ joined g n
+unfolding joined
+joined-same f g zero h = refl
+joined-same f g (suc n) h = ap₂ _++_ (joined-same f g n (λ i l. h i (omega arith))) (h n (omega arith))
+
+records-term : (y : Year) (t : Term) → y .courses ≡ 0 → y .terms < length (y .term) → recordsOf (addTerm y t) ≡ recordsOf y ++ termBytes (y .terms) t
+unfolding recordsOf joined
+records-term y t none room =
+    let z = addTerm y t in
+    let n = y .terms in
+    let same : joined (termBlock z) n ≡ joined (termBlock y) n =
+    joined-same (termBlock z) (termBlock y) n (λ i l. ap (termBytes i) (getD-set-other (y .term) n i t zeroTerm (λ q. omega arith))) in
+    let new : termBlock z n ≡ termBytes n t = ap (termBytes n) (getD-set-same (y .term) n t zeroTerm room) in
+    rw none
+    (append-nil (joined (termBlock z) (n + 1))
+    ∙ joined-more (termBlock z) n
+    ∙ ap₂ _++_ (same ∙ sym (append-nil (joined (termBlock y) n))) new)
+
+records-course : (y : Year) (c : Course) → y .courses < length (y .course) → recordsOf (addCourse y c) ≡ recordsOf y ++ courseBytes (y .courses) c
+unfolding recordsOf
+records-course y c room =
+    let z = addCourse y c in
+    let n = y .courses in
+    let same : joined (courseBlock z) n ≡ joined (courseBlock y) n =
+    joined-same (courseBlock z) (courseBlock y) n (λ i l. ap (courseBytes i) (getD-set-other (y .course) n i c zeroCourse (λ q. omega arith))) in
+    let new : courseBlock z n ≡ courseBytes n c = ap (courseBytes n) (getD-set-same (y .course) n c zeroCourse room) in
+    ap (λ (l : List ℕ). joined (termBlock y) (y .terms) ++ l) (joined-more (courseBlock z) n ∙ ap₂ _++_ same new)
+    ∙ sym (append-assoc (joined (termBlock y) (y .terms)) (joined (courseBlock y) n) (courseBytes n c))
+
+-- ---- the list
+
+module _ (s : List ℕ) (bytes : AllBytes s) where
+  -- the records of the year so far are the bytes so far
+  abbrev Back : ℕ → Year → Type 0
+  Back k y = Front k y × (k * 16 ≤ length s → recordsOf y ≡ take (k * 16) s)
+
+  back-start : Back 0 blankYear
+  unfolding recordsOf joined
+  back-start = (front-start, λ h. refl)
+
+  further : (k : ℕ) (l : List ℕ) → take 16 (drop (k * 16) s) ≡ l → take (suc k * 16) s ≡ take (k * 16) s ++ l
+  further k l e =
+      let is : suc k * 16 ≡ k * 16 + 16 = omega arith in
+      ap (λ (n : ℕ). take n s) is ∙ take-add (k * 16) 16 s ∙ ap (λ (m : List ℕ). take (k * 16) s ++ m) e
+
+  back-term : (k : ℕ) (y : Year) (t : Term) → Back k y → recordIn s k y ≡ OfTerm t → Back (suc k) (addTerm y t)
+  back-term k y t p e =
+      let r = record-term s (k * 16) (y .terms) (y .courses) t e in
+      let room : y .terms < length (y .term) = omega (arith, r .2 .room, p .0 .term-length) in (
+        front-term s k y t (p .0) e,
+        λ h.
+            records-term y t (r .1) room
+            ∙ ap (λ (l : List ℕ). l ++ termBytes (y .terms) t) (p .1 (omega arith))
+            ∙ sym (further k (termBytes (y .terms) t) (term-back s (k * 16) (omega arith) bytes (y .terms) t (r .0) (r .2))),
+      )
+
+  back-course : (k : ℕ) (y : Year) (c : Course) → Back k y → recordIn s k y ≡ OfCourse c → Back (suc k) (addCourse y c)
+  back-course k y c p e =
+      let r = record-course s (k * 16) (y .terms) (y .courses) c e in
+      let room : y .courses < length (y .course) = omega (arith, r .2 .room, p .0 .course-length) in (
+        front-course s k y c (p .0) e,
+        λ h.
+            records-course y c room
+            ∙ ap (λ (l : List ℕ). l ++ courseBytes (y .courses) c) (p .1 (omega arith))
+            ∙ sym (further k (courseBytes (y .courses) c) (course-back s (k * 16) (omega arith) bytes (y .courses) (y .terms) c (r .0) (r .2))),
+      )
+
+  pub read-write : (y : Year) → readList s ≡ done y → recordsOf y ≡ s
+  read-write y e =
+      let l = list-read s y e in
+      let b = read-keeps s Back back-start back-term back-course (length s / 16) y (l .2) in
+      b .1 (omega (arith, l .1)) ∙ ap (λ (n : ℕ). take n s) (l .1) ∙ take-length s

@@ -1,0 +1,132 @@
+// Years as records of 16 bytes: any byte string is read, or refused at its first fault; a sound year is written into a lent buffer.
+mod blocks;
+mod bytes;
+mod entries;
+
+use year::Course;
+use year::Term;
+use year::Year;
+use year::sound;
+ghost use mathlib.Core.Path.{_≡_};
+ghost use lib.ListN.{length};
+ghost use Rattle.records.specs.Reading.{blankYear, refused, badLength, readList};
+ghost use Rattle.records.specs.Writing.{writeAnswer, written};
+
+// What is wrong with a byte string: the paper's refusals 1 to 7.
+pub enum Fault {
+    Length,
+    Letter,
+    Number,
+    Size,
+    Order,
+    List,
+    Padding,
+}
+
+// What one record holds.
+pub enum Record {
+    OfTerm(Term),
+    OfCourse(Course),
+    Faulty(Fault),
+}
+
+// How a reading ended: done, or refused by the first fault, with its record's place.
+pub enum Reading {
+    Done,
+    Refused(Fault, usize),
+}
+
+pub struct Received {
+    pub answer: Reading,
+    pub year: Year,
+}
+
+// How a writing ended: done, or refused by 8 or 9.
+pub enum Writing {
+    Done,
+    Unsound,
+    Short,
+}
+
+// The bytes of a record, and of the longest list: that of the largest year.
+pub const RECORD: usize = 16;
+
+pub const LONGEST: usize = 1280;
+
+// The letters that records start with, "T" and "C".
+pub const TERM_LETTER: u8 = 84;
+
+pub const COURSE_LETTER: u8 = 67;
+
+fn refused(f: Fault, k: usize) -> Received
+    ensures { λ r. ⌜ r ≡ refused f k ⌝ }
+{
+    let y = Year::empty();
+    Received {
+        answer: Reading::Refused(f, k),
+        year: y,
+    }
+}
+
+// The year before its first record.
+fn blank() -> Year
+    ensures { λ r. ⌜ r ≡ blankYear ⌝ }
+{
+    let mut y = Year::empty();
+    y.terms = 0;
+    y
+}
+
+fn bad_length(n: usize) -> bool
+    ensures { λ r. ⌜ r ≡ badLength n ⌝ }
+{
+    (n == 0) | (LONGEST < n) | (n % RECORD != 0)
+}
+
+// Reads a year from any byte string.
+pub fn read(s: &[u8]) -> Received
+    ensures { λ r. ⌜ r ≡ readList (now (s .entry)) ⌝ }
+{
+    let n = s.len();
+    if bad_length(n) {
+        return refused(Fault::Length, 0);
+    }
+    let mut y = blank();
+    for k in 0..n / RECORD {
+        match entries::read_record(s, k * RECORD, y.terms, y.courses) {
+            Record::OfTerm(t) => {
+                let j = y.terms;
+                y.term[j] = t;
+                y.terms = j + 1;
+            }
+            Record::OfCourse(c) => {
+                let i = y.courses;
+                y.course[i] = c;
+                y.courses = i + 1;
+            }
+            Record::Faulty(f) => {
+                return refused(f, k);
+            }
+        }
+    }
+    Received {
+        answer: Reading::Done,
+        year: y,
+    }
+}
+
+// Writes the records of a sound year into the front of a buffer that has room for them.
+pub fn write(y: Year, buf: &mut [u8]) -> Writing
+    ensures { λ r. ⌜ r ≡ writeAnswer y (length (now (buf .entry))) ⌝ }
+    ensures { λ _. ⌜ now (buf .exit) ≡ written y (now (buf .entry)) ⌝ }
+{
+    if !sound::is_sound(y) {
+        return Writing::Unsound;
+    }
+    if buf.len() < (y.terms + y.courses) * RECORD {
+        return Writing::Short;
+    }
+    blocks::put_terms(y, buf);
+    blocks::put_courses(y, buf);
+    Writing::Done
+}
