@@ -6,9 +6,14 @@ use year::Course;
 use year::Term;
 use year::Year;
 
+// A place as a number to print: no year has a thousand of anything.
+fn place(k: usize) -> u32 {
+    (k % 1000) as u32
+}
+
 // T, number, credits low and high, count low and high.
 fn show_term(j: usize, t: Term) {
-    let a = text::numbered(text::letter(84), j as u32);
+    let a = text::numbered(text::letter(84), place(j));
     let b = text::numbered(a, t.low.0);
     let c = text::numbered(b, t.high.0);
     let d = text::numbered(c, t.least.0);
@@ -17,7 +22,7 @@ fn show_term(j: usize, t: Term) {
 
 // C, number, weight, terms with commas.
 fn show_course(i: usize, c: Course) {
-    let a = text::numbered(text::letter(67), i as u32);
+    let a = text::numbered(text::letter(67), place(i));
     let b = text::numbered(a, c.weight.0);
     text::show(text::listed(b, c.list));
 }
@@ -97,6 +102,6 @@ pub fn show(s: &[u8]) {
     let a = r.answer;
     match a {
         Reading::Done => show_filtered(y),
-        Reading::Refused(f, k) => show_refused(fault_number(f), (k % 1000) as u32),
+        Reading::Refused(f, k) => show_refused(fault_number(f), place(k)),
     }
 }

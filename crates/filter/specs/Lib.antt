@@ -2,3 +2,4 @@
 pub mod Filter
 pub mod Numbers
 pub mod Examples
+pub mod Larger

@@ -19,7 +19,7 @@ lists-requires c κs = search needs
 returns : tie.Need-returns
 returns c = simp (sym (c .before .lists .ensures) ∙ not-true _ (c .if1 .taken))
 
--- past the first refusal the term is listed
+-- past the first return the term is listed
 listed : (c : tie.Else1) → lists (courseAt (c .before .before .before .args .t1) (c .before .before .before .args .i)) (c .before .before .before .args .j) ≡ true
 listed c = sym (c .before .lists .ensures) ∙ not-false _ (c .if1 .left)
 

@@ -1,0 +1,85 @@
+-- The heaviest open course of each term: a course more, and what it bounds.
+use Prim.Native.Nat.{ℕ, zero, suc, _+_, _-_, _^_, _≤_, _<_, max}
+use mathlib.Core.Bool.{Bool, true, false, not, _&&_, true≢false}
+use mathlib.Core.List.{_∷_}
+use mathlib.Core.Path.{_≡_, refl, sym, ap, ap₂, _∙_}
+use native.Mathlib.Numerals.{add-one}
+use native.Mathlib.Decide.{ℕ-discrete}
+use native.Mathlib.Omega.{arith}
+use lib.Dec.{eqb, ltb}
+use borrow.Author.Tests.{ltb-true, ltb-false, eq-eqb, ne-eqb}
+use Rattle.theory.specs.Sum.{pick, pick-le}
+use Rattle.theory.specs.Tests.{and-true, and-of}
+use Rattle.theory.specs.Bits.{has, has-le, has-some, has-struck, has-power}
+use Rattle.theory.specs.Tab.{tab, getD-tab}
+use Rattle.year.specs.Year.{courseAt, weight, list, lists, isFixed, isOpen}
+use Rattle.year.specs.Sums.{openWeight}
+use Rattle.year.specs.Sound.{Sound}
+use Rattle.year.specs.declared.Year.{Year}
+use Rattle.rules.specs.declared.Step.{Step}
+use Rattle.rules.proofs.Whole.{Whole}
+use Rattle.lists.specs.Tops.{topTo, topWith}
+
+pub larger-first : (b : Bool) (top w : ℕ) → b && ltb top w ≡ true → w ≡ max top (pick b w)
+larger-first true top w e = omega (arith, ltb-true top w e)
+larger-first false top w e = absurd (let z : _≡_ {A = Bool} false true = e in let n : _≡_ {A = ℕ} 0 1 = cc in omega arith)
+
+pub larger-second : (b : Bool) (top w : ℕ) → b && ltb top w ≡ false → top ≡ max top (pick b w)
+larger-second true top w e = omega (arith, ltb-false top w e)
+larger-second false top w e = omega arith
+
+pub top-more : (y : Year) (n j : ℕ) → topTo y (n + 1) j ≡ max (topTo y n j) (openWeight y j n)
+unfolding topTo
+top-more y n j = rw add-one
+
+-- an array is known by its entries
+tab-same : (n : ℕ) (f g : ℕ → ℕ) → ((k : ℕ) → k < n → f k ≡ g k) → tab n f ≡ tab n g
+unfolding tab
+tab-same zero f g h = refl
+tab-same (suc n) f g h = ap₂ _∷_ (h 0 (omega arith)) (tab-same n (λ k. f (suc k)) (λ k. g (suc k)) (λ k l. h (suc k) (omega arith)))
+
+pub tops-more : (y : Year) (n : ℕ) → tab 16 (topWith (tab 16 (topTo y n)) (courseAt y n)) ≡ tab 16 (topTo y (n + 1))
+tops-more y n =
+    tab-same 16 (topWith (tab 16 (topTo y n)) (courseAt y n)) (topTo y (n + 1))
+    (λ k h. ap (λ x. max x (openWeight y k n)) (getD-tab 16 (topTo y n) 0 k h) ∙ sym (top-more y n k))
+
+-- ---- what it bounds
+
+pub top-bounds : (y : Year) (n j i : ℕ) → i < n → openWeight y j i ≤ topTo y n j
+unfolding topTo
+top-bounds y zero j i h = absurd (omega arith)
+top-bounds y (suc n) j i h = go (ℕ-discrete i n) (λ q. top-bounds y n j i q)
+  where
+    go : Dec (i ≡ n) → (i < n → openWeight y j i ≤ topTo y n j) → openWeight y j i ≤ topTo y (suc n) j
+    go (yes e) ih = rw e (omega arith)
+    go (no d) ih = omega (arith, ih (omega arith))
+
+pub top-most : (y : Year) (n j : ℕ) → Sound y → n ≤ y .courses → topTo y n j ≤ 1000
+unfolding topTo
+top-most y zero j s h = omega arith
+top-most y (suc n) j s h =
+    omega (arith, top-most y n j s (omega arith), pick-le (isOpen (courseAt y n) j) (weight y n), s .course-sound n (omega arith) .weight-most)
+
+-- a course that is open in a later year was open before
+module _ (y : Year) (t : Step) (w : Whole y t) (i j : ℕ) (h : i < y .courses) where
+  was-open : isOpen (courseAt (t .year) i) j ≡ true → isOpen (courseAt y i) j ≡ true
+  was-open e =
+      let l = list (t .year) i in
+      let p = and-true (lists (courseAt (t .year) i) j) (not (isFixed (courseAt (t .year) i) j)) e in
+      let listed : has l j ≡ true = p .0 in
+      let ne : l ≡ 2 ^ j → ⊥ = λ q. true≢false (sym (p .1) ∙ ap not (eq-eqb l (2 ^ j) q)) in
+      let le : 2 ^ j ≤ l = has-le l j listed in
+      let inside : l < 2 ^ t .year .terms = w .sound .course-sound i (omega (arith, w .courses-same)) .list-within in
+      let r = has-some (t .year .terms) (l - 2 ^ j) (omega (arith, ne)) (omega arith) in
+      let other = and-true (has l (r .0)) (not (eqb (r .0) j)) (sym (has-struck l j (r .0) listed) ∙ r .2) in
+      let not-alone : list y i ≡ 2 ^ j → ⊥ = λ q.
+      let k : eqb (r .0) j ≡ true = sym (has-power j (r .0)) ∙ ap (λ x. has x (r .0)) (sym q) ∙ w .lists-less i (r .0) (other .0) in
+      true≢false (sym (other .1) ∙ ap not k) in
+      and-of (lists (courseAt y i) j) (not (isFixed (courseAt y i) j)) (w .lists-less i j listed) (ap not (ne-eqb (list y i) (2 ^ j) not-alone))
+
+  pub open-less : openWeight (t .year) j i ≤ openWeight y j i
+  open-less = go (isOpen (courseAt (t .year) i) j) refl
+    where
+      go : (b : Bool) → isOpen (courseAt (t .year) i) j ≡ b → pick b (weight (t .year) i) ≤ openWeight y j i
+      go true e = rw (was-open e) (omega (arith, w .weight-same i))
+      go false e = omega arith

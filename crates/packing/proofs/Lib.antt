@@ -1,0 +1,4 @@
+-- Laws about sizes and about the answer, for the proofs here.
+pub mod ArrayLaws
+pub mod SizeLaws
+pub mod StateLaws

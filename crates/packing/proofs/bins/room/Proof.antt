@@ -1,0 +1,61 @@
+-- The loop's invariant: the number is the largest high credits of the first k terms.
+use Prim.Native.Nat.{_≤_, _-_}
+use mathlib.Core.Logic.{⊎-elim}
+use mathlib.Core.Path.{_≡_, ap, _∙_}
+use native.Mathlib.Omega.{arith}
+use borrow.Author.Needs.{needs}
+use Rattle.year.specs.Year.{highCredits}
+use Rattle.year.specs.Imbalance.{largest}
+use Rattle.year.proofs.SpreadLaws.{largest-more}
+use Rattle.packing.proofs.bins.room.Statement.{statement}
+use Rattle.packing.proofs.bins.room.Tie as tie
+
+abbrev Inv-loop : tie.InvT-loop
+Inv-loop y most₀ k₀ k-end most k = (k ≤ y .terms) × (most ≡ largest k (highCredits y))
+
+abbrev μ-loop : tie.MeasureT-loop
+μ-loop y most₀ k₀ k-end most k = y .terms - k
+
+element-copy-out-most : tie.Need-element-copy-out-most Inv-loop μ-loop
+element-copy-out-most c = search needs
+
+loop-holds : tie.Need-loop-holds Inv-loop μ-loop
+unfolding largest
+loop-holds c = search needs
+
+mul-x : tie.Need-mul-x Inv-loop μ-loop
+mul-x c = search needs
+
+element-copy-out-x : tie.Need-element-copy-out-x Inv-loop μ-loop
+element-copy-out-x c = search needs
+
+add-k : tie.Need-add-k Inv-loop μ-loop
+add-k c = search needs
+
+loop-less : tie.Need-loop-less Inv-loop μ-loop
+loop-less c = search needs
+
+loop-again : tie.Need-loop-again Inv-loop μ-loop
+loop-again c =
+    let more = largest-more (c .before .before .loop .k) (highCredits (c .before .before .before .args .t1)) in
+    (search needs, ⊎-elim (λ w. omega arith) (λ w. omega arith) (c .if1 .came))
+
+returns : tie.Need-returns Inv-loop μ-loop
+returns c = let b = c .before .before in
+    let is : c .before .loop .k ≡ b .args .t1 .terms = omega arith in
+    c .before .loop .inv .1 ∙ ap (λ n. largest n (highCredits (b .args .t1))) is
+
+pub room-spec : {M : Type 1} → statement M
+room-spec =
+    tie.close
+    (tie.spec
+    Inv-loop
+    μ-loop
+    element-copy-out-most
+    loop-holds
+    mul-x
+    element-copy-out-x
+    add-k
+    loop-less
+    loop-again
+    returns)

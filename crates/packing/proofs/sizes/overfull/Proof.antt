@@ -1,0 +1,31 @@
+-- Under the bound no t is too much; above it, the loop answers.
+use mathlib.Core.Path.{sym}
+use native.Mathlib.Omega.{arith}
+use borrow.Author.Needs.{needs}
+use Rattle.packing.proofs.SizeLaws.{none-over}
+use Rattle.packing.proofs.sizes.overfull.Statement.{statement}
+use Rattle.packing.proofs.sizes.overfull.Tie as tie
+
+cap-sum-requires : tie.Need-cap-sum-requires
+cap-sum-requires c κs = search needs
+
+cap-sum-requires-2 : tie.Need-cap-sum-requires-2
+cap-sum-requires-2 c κs = search needs
+
+add-if1 : tie.Need-add-if1
+add-if1 c = search needs
+
+returns : tie.Need-returns
+returns c = let b = c .before .before .before .before .before in
+    sym (none-over (b .args .a .now) (b .args .b .now) (b .args .c) (b .args .limit) (omega (arith, c .if1 .taken, c .before .before .cap-sum .ensures .0, c .before .cap-sum2 .ensures .0)))
+
+exceeds-requires : tie.Need-exceeds-requires
+exceeds-requires c κs = search needs
+
+returns-2 : tie.Need-returns-2
+returns-2 c = search needs
+
+pub overfull-spec : {M : Type 1} → statement M
+overfull-spec =
+    tie.close
+    (tie.spec cap-sum-requires cap-sum-requires-2 add-if1 returns exceeds-requires returns-2)

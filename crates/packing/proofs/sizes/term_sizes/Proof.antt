@@ -1,0 +1,87 @@
+-- The loop's invariant: zeros, with the sizes of the first k terms stored.
+use Prim.Native.Nat.{_≤_, _-_}
+use mathlib.Core.Path.{_≡_, sym, ap, ap₂, _∙_}
+use native.Mathlib.Omega.{arith}
+use lib.ListN.{replicate, set}
+use borrow.Author.Needs.{needs}
+use Rattle.theory.specs.Tab.{fill, fill-more}
+use Rattle.year.specs.Year.{highCredits}
+use Rattle.year.proofs.SumLaws.{fixed-read}
+use Rattle.packing.specs.Sizes.{usedAt}
+use Rattle.packing.proofs.ArrayLaws.{fill-first}
+use Rattle.packing.proofs.sizes.term_sizes.Statement.{statement}
+use Rattle.packing.proofs.sizes.term_sizes.Tie as tie
+
+abbrev Inv-loop : tie.InvT-loop
+Inv-loop c y s r₀ k₀ k-end r k = (k ≤ y .terms) × (r ≡ fill (usedAt y c) r₀ k)
+
+abbrev μ-loop : tie.MeasureT-loop
+μ-loop c y s r₀ k₀ k-end r k = y .terms - k
+
+loop-holds : tie.Need-loop-holds Inv-loop μ-loop
+unfolding fill
+loop-holds c = search needs
+
+mul-less : tie.Need-mul-less Inv-loop μ-loop
+mul-less c = search needs
+
+element-copy-out-less : tie.Need-element-copy-out-less Inv-loop μ-loop
+element-copy-out-less c = search needs
+
+mul-less-2 : tie.Need-mul-less-2 Inv-loop μ-loop
+mul-less-2 c = search needs
+
+element-copy-out-less-2 : tie.Need-element-copy-out-less-2 Inv-loop μ-loop
+element-copy-out-less-2 c = search needs
+
+less-requires : tie.Need-less-requires Inv-loop μ-loop
+less-requires c κs = search needs
+
+less-requires-2 : tie.Need-less-requires-2 Inv-loop μ-loop
+less-requires-2 c κs = search needs
+
+mul-r : tie.Need-mul-r Inv-loop μ-loop
+mul-r c = search needs
+
+array-write-r : tie.Need-array-write-r Inv-loop μ-loop
+array-write-r c = search needs
+
+add-k : tie.Need-add-k Inv-loop μ-loop
+add-k c = search needs
+
+loop-less : tie.Need-loop-less Inv-loop μ-loop
+loop-less c = search needs
+
+loop-again : tie.Need-loop-again Inv-loop μ-loop
+loop-again c =
+    let l = c .before .before .before in
+    let b = l .before in
+    let p = fixed-read (b .args .t1) (b .args .t2) (b .pre .1) (l .loop .k) (omega (arith, b .pre .0)) in
+    let used : c .less2 .result ≡ usedAt (b .args .t1) (b .args .c) (l .loop .k) = c .less2 .ensures ∙ ap (λ x. b .args .c - x) (c .before .less .ensures ∙ ap (λ x. highCredits (b .args .t1) (l .loop .k) - x) p) in
+    (search needs, ap₂ (λ r v. set r (l .loop .k) v) (l .loop .inv .1) (used) ∙ sym (fill-more (usedAt (b .args .t1) (b .args .c)) (replicate 16 0) (l .loop .k)))
+
+returns : tie.Need-returns Inv-loop μ-loop
+returns c =
+    let b = c .before .before in
+    let is : c .before .loop .k ≡ b .args .t1 .terms = omega arith in
+    c .before .loop .inv .1 ∙ ap (fill (usedAt (b .args .t1) (b .args .c)) (replicate 16 0)) is ∙ fill-first (usedAt (b .args .t1) (b .args .c)) 16 (b .args .t1 .terms) (b .pre .0 .terms-most)
+
+pub term-sizes-spec : {M : Type 1} → statement M
+term-sizes-spec =
+    tie.close
+    (tie.spec
+    Inv-loop
+    μ-loop
+    loop-holds
+    mul-less
+    element-copy-out-less
+    mul-less-2
+    element-copy-out-less-2
+    less-requires
+    less-requires-2
+    mul-r
+    array-write-r
+    add-k
+    loop-less
+    loop-again
+    returns)

@@ -1,0 +1,2 @@
+-- Rule 11 as the code computes it.
+pub mod Sizes
