@@ -224,7 +224,7 @@ fn packed(random: &mut Random, terms: usize, courses: usize) -> Year {
 }
 
 /// Lists around a hidden placing, and bounds around its loads.
-fn around_a_plan(
+pub fn around_a_plan(
     random: &mut Random,
     terms: usize,
     courses: usize,
