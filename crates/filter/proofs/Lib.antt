@@ -1,2 +1,3 @@
--- Laws about rounds in a row.
+-- Laws about rounds in a row, and about the state between two rules of a round.
 pub mod RoundLaws
+pub mod Stages

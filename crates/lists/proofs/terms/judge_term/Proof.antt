@@ -43,7 +43,8 @@ returns-2 c = let m = c .before .before .before .before .before in
 sums-of-requires : tie.Need-sums-of-requires
 sums-of-requires c κs = let m = c .before .before .before .before .before .before in
     let b = m .before in
-    year-sound (b .args .t1) (b .args .w) (b .args .j) (b .pre .0) (b .pre .1 .0) (b .pre .1 .1 .0) (b .pre .1 .1 .1) (goes m) _ (c .before .before .before .each-course .ensures)
+    let sound = year-sound (b .args .t1) (b .args .w) (b .args .j) (b .pre .0) (b .pre .1 .0) (b .pre .1 .1 .0) (b .pre .1 .1 .1) (goes m) _ (c .before .before .before .each-course .ensures) in
+    search needs
 
 returns-3 : tie.Need-returns-3
 returns-3 c = let m = c .before .before .before .before .before .before .before in

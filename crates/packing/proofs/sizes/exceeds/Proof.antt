@@ -1,55 +1,68 @@
+-- The loop's invariant: no t so far was too much. The loop ends at the first that is, or past half of c.
+use Prim.Native.Nat.{_+_, _/_, _≤_, _-_}
+use mathlib.Core.Bool.{false}
+use mathlib.Core.Path.{_≡_, sym, ap, _∙_}
+use native.Mathlib.Omega.{arith}
+use borrow.Author.Tests.{lt-ltb, le-ltb}
+use borrow.Author.Needs.{needs}
+use Rattle.theory.specs.Tests.{any, any-of}
+use Rattle.packing.specs.Sizes.{shareSum, over}
+use Rattle.packing.proofs.SizeLaws.{none-more}
 use Rattle.packing.proofs.sizes.exceeds.Statement.{statement}
 use Rattle.packing.proofs.sizes.exceeds.Tie as tie
-use Rattle.packing.proofs.sizes.exceeds.Reads as reads
-use Rattle.packing.proofs.sizes.exceeds.Lts as lts
-use Rattle.packing.proofs.sizes.share_sum.Reads as share-sum-reads
-use borrow.Author.Needs.{needs}
 
 abbrev Inv-loop : tie.InvT-loop
-Inv-loop a b c limit t₀ t-end t = ?
+Inv-loop a b c limit t₀ t-end t = (t ≤ t-end) × (any t (over a b c limit) ≡ false)
 
 abbrev μ-loop : tie.MeasureT-loop
-μ-loop a b c limit t₀ t-end t = ?
+μ-loop a b c limit t₀ t-end t = t-end - t
 
--- src/sizes.rt:109:17
 add-t-end : tie.Need-add-t-end Inv-loop μ-loop
 add-t-end c = search needs
 
--- src/sizes.rt:109:5
 loop-holds : tie.Need-loop-holds Inv-loop μ-loop
+unfolding any
 loop-holds c = search needs
 
--- src/sizes.rt:110:20
 share-sum-requires : tie.Need-share-sum-requires Inv-loop μ-loop
 share-sum-requires c κs = search needs
 
--- src/sizes.rt:110:41
 share-sum-requires-2 : tie.Need-share-sum-requires-2 Inv-loop μ-loop
 share-sum-requires-2 c κs = search needs
 
--- src/sizes.rt:110:20
 add-if1 : tie.Need-add-if1 Inv-loop μ-loop
-add-if1 c = search needs
+add-if1 c = omega (arith, c .before .share-sum .ensures .1, c .share-sum2 .ensures .1)
 
--- src/sizes.rt:111:13
 returns : tie.Need-returns Inv-loop μ-loop
-returns c = search needs
+returns c =
+    let l = c .before .before .before .before in
+    let b = l .before .before .before .args in
+    let t = l .loop .t in
+    sym
+    (any-of (b .c / 2 + 1) (over (b .a .now) (b .b .now) (b .c) (b .limit)) t (omega arith)
+    (lt-ltb (b .limit) (shareSum (b .a .now) (b .c) t + shareSum (b .b .now) (b .c) t) (omega (arith, c .before .before .share-sum .ensures .0, c .before .share-sum2 .ensures .0))))
 
--- src/sizes.rt:109:9
 add-t : tie.Need-add-t Inv-loop μ-loop
 add-t c = search needs
 
--- src/sizes.rt:109:5
 loop-less : tie.Need-loop-less Inv-loop μ-loop
 loop-less c = search needs
 
--- src/sizes.rt:109:5
 loop-again : tie.Need-loop-again Inv-loop μ-loop
-loop-again c = search needs
+loop-again c =
+    let l = c .before .before .before .before in
+    let b = l .before .before .before .args in
+    let t = l .loop .t in (
+      search needs,
+      none-more t (over (b .a .now) (b .b .now) (b .c) (b .limit)) (l .loop .inv .1)
+          (le-ltb (b .limit) (shareSum (b .a .now) (b .c) t + shareSum (b .b .now) (b .c) t) (omega (arith, c .before .before .share-sum .ensures .0, c .before .share-sum2 .ensures .0))),
+    )
 
--- src/sizes.rt:105:1
 returns-2 : tie.Need-returns-2 Inv-loop μ-loop
-returns-2 c = search needs
+returns-2 c =
+    let b = c .before .before .before .before .args in
+    let is : c .before .loop .t ≡ b .c / 2 + 1 = omega arith in
+    sym (ap (λ n. any n (over (b .a .now) (b .b .now) (b .c) (b .limit))) (sym is) ∙ c .before .loop .inv .1)
 
 pub exceeds-spec : {M : Type 1} → statement M
 exceeds-spec =

@@ -1,0 +1,7 @@
+-- Laws for the proofs of the code, and for those who call it.
+pub mod NearLaws
+pub mod OrderLaws
+pub mod SparingLaws
+pub mod WalkLaws
+pub mod KeptLaws
+pub mod RuleLaws

@@ -1,0 +1,95 @@
+-- The sums of the bounds over all terms, and over the other terms.
+use Prim.Native.Nat.{ℕ, zero, suc, _+_, _-_, _*_, _≤_, _<_}
+use mathlib.Core.List.{List}
+use mathlib.Core.Path.{_≡_, refl, ap, ap₂, _∙_}
+use native.Mathlib.Omega.{arith}
+use native.Mathlib.Decide.{ℕ-discrete, decLt}
+use lib.Dec.{ltb}
+use Rattle.theory.specs.Sum.{sum, sum-more, sum-le-mul}
+use Rattle.theory.specs.Load.{others, others-split}
+use Rattle.year.specs.Year.{termAt, zeroTerm}
+use Rattle.year.specs.Sums.{allCredits, fixedCredits, openCredits, fixedCount, openCount, sumsAt}
+use Rattle.year.specs.Sound.{Sound, TermSound}
+use Rattle.year.specs.Tight.{creditsWithin, countsWithin}
+use Rattle.year.specs.declared.Term.{Term}
+use Rattle.year.specs.declared.Year.{Year}
+use Rattle.rules.specs.Step.{outcome}
+use Rattle.rules.specs.Bounds.{rule1, rule2, rule4, rule5}
+use Rattle.bounds.specs.Near.{termIn, lowIn, highIn, leastIn, mostIn, totalsTo, totalsWith, firstOf, secondOf, fourthOf, fifthOf}
+use Rattle.bounds.specs.declared.Totals.{Totals}
+
+-- ---- one entry more
+
+pub totals-more : (t : List Term) (k : ℕ) → totalsTo t (k + 1) ≡ totalsWith (totalsTo t k) (termIn t k)
+totals-more t k =
+    let a = sum-more k (lowIn t) in
+    let b = sum-more k (highIn t) in
+    let d = sum-more k (leastIn t) in
+    let e = sum-more k (mostIn t) in
+    λ i. record { low = a i; high = b i; least = d i; most = e i }
+
+pub totals-fit : (t : List Term) (k : ℕ) (x : Totals) → ((i : ℕ) → i < 16 → TermSound (termIn t i)) → k < 16 → x ≡ totalsTo t k
+    → (x .low ≤ 1024000) × (x .high ≤ 1024000) × (x .least ≤ 1024) × (x .most ≤ 1024)
+totals-fit t k x s h e =
+    let a = sum-le-mul k 64000 (lowIn t) (λ i l. omega (arith, s i (omega arith))) in
+    let b = sum-le-mul k 64000 (highIn t) (λ i l. omega (arith, s i (omega arith))) in
+    let d = sum-le-mul k 64 (leastIn t) (λ i l. omega (arith, s i (omega arith))) in
+    let f = sum-le-mul k 64 (mostIn t) (λ i l. omega (arith, s i (omega arith))) in (
+      omega (arith, ap (λ (z : Totals). z .low) e),
+      omega (arith, ap (λ (z : Totals). z .high) e),
+      omega (arith, ap (λ (z : Totals). z .least) e),
+      omega (arith, ap (λ (z : Totals). z .most) e),
+    )
+
+-- ---- in a sound year
+
+pub all-sound : (y : Year) → Sound y → (k : ℕ) → k < 16 → TermSound (termAt y k)
+all-sound y s k h = go (decLt k (y .terms))
+  where
+    go : Dec (k < y .terms) → TermSound (termAt y k)
+    go (yes l) = s .term-sound k l
+    go (no l) =
+        rw (s .term-blank k (omega (arith, l)) h)
+        (record { credits-ordered = omega arith; credits-most = omega arith; count-ordered = omega arith; count-most = omega arith })
+
+-- entries that are 0 add nothing
+sum-past : (n m : ℕ) (f : ℕ → ℕ) → m ≤ n → ((k : ℕ) → m ≤ k → k < n → f k ≡ 0) → sum n f ≡ sum m f
+unfolding sum
+sum-past zero m f l h = let e : m ≡ 0 = omega arith in rw e refl
+sum-past (suc n) m f l h = go (ℕ-discrete m (suc n)) (λ q. sum-past n m f q (λ k a b. h k a (omega arith)))
+  where
+    go : Dec (m ≡ suc n) → (m ≤ n → sum n f ≡ sum m f) → sum (suc n) f ≡ sum m f
+    go (yes e) ih = rw e refl
+    go (no d) ih = omega (arith, ih (omega (arith, d)), h n (omega (arith, d)) (omega arith))
+
+-- the sum over all sixteen entries less the term's own is the sum over the other terms
+module _ (y : Year) (s : Sound y) (j : ℕ) (h : j < y .terms) where
+  others-are : (f : Term → ℕ) → f zeroTerm ≡ 0 → sum 16 (λ k. f (termAt y k)) - f (termAt y j) ≡ others (y .terms) j (λ k. f (termAt y k))
+  others-are f z =
+      omega (
+        arith,
+        sum-past 16 (y .terms) (λ k. f (termAt y k)) (omega (arith, s)) (λ k a b. ap f (s .term-blank k a b) ∙ z),
+        others-split (y .terms) j (λ k. f (termAt y k)) h,
+      )
+
+  pub second-is : secondOf (termAt y j) (totalsTo (y .term) 16) (allCredits y) ≡ rule2 y j
+  unfolding rule2
+  second-is =
+      let low = others-are (λ t. t .low .0) refl in
+      let high = others-are (λ t. t .high .0) refl in
+      ap₂ (λ a b. outcome 2 (ltb (allCredits y) a) (termAt y j) (creditsWithin (termAt y j) (allCredits y - b) (allCredits y - a))) low high
+
+  pub fifth-is : fifthOf (termAt y j) (totalsTo (y .term) 16) (y .courses) ≡ rule5 y j
+  unfolding rule5
+  fifth-is =
+      let least = others-are (λ t. t .least .0) refl in
+      let most = others-are (λ t. t .most .0) refl in
+      ap₂ (λ a b. outcome 5 (ltb (y .courses) a) (termAt y j) (countsWithin (termAt y j) (y .courses - b) (y .courses - a))) least most
+
+pub first-is : (y : Year) (j : ℕ) → firstOf (termAt y j) (sumsAt y j) ≡ rule1 y j
+unfolding rule1 sumsAt fixedCredits openCredits
+first-is y j = refl
+
+pub fourth-is : (y : Year) (j : ℕ) → fourthOf (termAt y j) (sumsAt y j) ≡ rule4 y j
+unfolding rule4 sumsAt fixedCount openCount
+fourth-is y j = refl

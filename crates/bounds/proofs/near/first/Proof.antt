@@ -1,0 +1,16 @@
+-- The tighter bounds are the definition's.
+use borrow.Author.Needs.{needs}
+use Rattle.bounds.proofs.near.first.Statement.{statement}
+use Rattle.bounds.proofs.near.first.Tie as tie
+
+credits-within-requires : tie.Need-credits-within-requires
+credits-within-requires c κs = search needs
+
+outcome-requires : tie.Need-outcome-requires
+outcome-requires c κs = search needs
+
+returns : tie.Need-returns
+returns c = rw (c .before .credits-within .ensures) at (c .outcome .ensures)
+
+pub first-spec : {M : Type 1} → statement M
+first-spec = tie.close (tie.spec credits-within-requires outcome-requires returns)

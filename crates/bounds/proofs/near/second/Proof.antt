@@ -1,0 +1,37 @@
+-- The others' sums and what they leave are the definition's.
+use borrow.Author.Needs.{needs}
+use Rattle.bounds.proofs.near.second.Statement.{statement}
+use Rattle.bounds.proofs.near.second.Tie as tie
+
+less-requires : tie.Need-less-requires
+less-requires c κs = search needs
+
+less-requires-2 : tie.Need-less-requires-2
+less-requires-2 c κs = search needs
+
+less-requires-3 : tie.Need-less-requires-3
+less-requires-3 c κs = search needs
+
+less-requires-4 : tie.Need-less-requires-4
+less-requires-4 c κs = search needs
+
+credits-within-requires : tie.Need-credits-within-requires
+credits-within-requires c κs = search needs
+
+outcome-requires : tie.Need-outcome-requires
+outcome-requires c κs = search needs
+
+returns : tie.Need-returns
+returns c = cc
+
+pub second-spec : {M : Type 1} → statement M
+second-spec =
+    tie.close
+    (tie.spec
+    less-requires
+    less-requires-2
+    less-requires-3
+    less-requires-4
+    credits-within-requires
+    outcome-requires
+    returns)

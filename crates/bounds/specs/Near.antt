@@ -1,0 +1,64 @@
+-- Rules 1, 2, 4 and 5 on the values that they read: a term, its sums, and the sums of the bounds over all terms.
+use Prim.Native.Nat.{ℕ, _+_, _-_}
+use mathlib.Core.Bool.{false}
+use mathlib.Core.List.{List}
+use lib.Dec.{eqb, ltb}
+use lib.ListN.{getD}
+use Rattle.theory.specs.Choice.{choose}
+use Rattle.theory.specs.Sum.{sum}
+use Rattle.year.specs.Year.{zeroTerm}
+use Rattle.year.specs.Tight.{creditsWithin, countsWithin}
+use Rattle.year.specs.declared.Term.{Term}
+use Rattle.year.specs.declared.Sums.{Sums}
+use Rattle.rules.specs.Step.{outcome}
+use Rattle.rules.specs.declared.Outcome.{Outcome}
+use Rattle.bounds.specs.declared.Totals.{Totals}
+
+-- ---- the bounds of the terms in an array
+
+abbrev pub termIn : List Term → ℕ → Term
+termIn t k = getD t k zeroTerm
+
+abbrev pub lowIn : List Term → ℕ → ℕ
+lowIn t k = termIn t k .low .0
+
+abbrev pub highIn : List Term → ℕ → ℕ
+highIn t k = termIn t k .high .0
+
+abbrev pub leastIn : List Term → ℕ → ℕ
+leastIn t k = termIn t k .least .0
+
+abbrev pub mostIn : List Term → ℕ → ℕ
+mostIn t k = termIn t k .most .0
+
+-- their sums over the first n entries
+abbrev pub totalsTo : List Term → ℕ → Totals
+totalsTo t n = record { low = sum n (lowIn t); high = sum n (highIn t); least = sum n (leastIn t); most = sum n (mostIn t) }
+
+abbrev pub totalsWith : Totals → Term → Totals
+totalsWith x t = record { low = x .low + t .low .0; high = x .high + t .high .0; least = x .least + t .least .0; most = x .most + t .most .0 }
+
+-- ---- the rules
+
+abbrev pub firstOf : Term → Sums → Outcome
+firstOf t u = outcome 1 false t (creditsWithin t (u .fixed .0) (u .possible .0))
+
+-- the sum over the other terms is the sum over all less the term's own
+abbrev pub secondOf : Term → Totals → ℕ → Outcome
+secondOf t x all =
+    outcome 2 (ltb all (x .low - t .low .0)) t
+    (creditsWithin t (all - (x .high - t .high .0)) (all - (x .low - t .low .0)))
+
+abbrev pub fourthOf : Term → Sums → Outcome
+fourthOf t u = outcome 4 false t (countsWithin t (u .placed .0) (u .placed .0 + u .free .0))
+
+abbrev pub fifthOf : Term → Totals → ℕ → Outcome
+fifthOf t x all =
+    outcome 5 (ltb all (x .least - t .least .0)) t
+    (countsWithin t (all - (x .most - t .most .0)) (all - (x .least - t .least .0)))
+
+abbrev pub ownOf : ℕ → Term → Sums → Outcome
+ownOf rule t u = choose (eqb rule 1) (firstOf t u) (fourthOf t u)
+
+abbrev pub sharedOf : ℕ → Term → Totals → ℕ → ℕ → Outcome
+sharedOf rule t x credits courses = choose (eqb rule 2) (secondOf t x credits) (fifthOf t x courses)

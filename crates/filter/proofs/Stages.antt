@@ -1,0 +1,45 @@
+-- The state between two rules of a round: it is the definition's step beside its sums, and the year is whole.
+use Prim.Native.Nat.{ℕ, _<_}
+use mathlib.Core.Path.{_≡_, refl, sym, ap, _∙_, subst}
+use Rattle.year.specs.Sound.{Sound}
+use Rattle.year.specs.Year.{weight}
+use Rattle.year.specs.declared.Year.{Year}
+use Rattle.rules.specs.Step.{live, summed, stepOf, overTerms}
+use Rattle.rules.specs.declared.Step.{Step}
+use Rattle.rules.specs.declared.State.{State}
+use Rattle.rules.proofs.Whole.{Whole, whole-rest, down-same, up-same, credits-same}
+use Rattle.rules.proofs.Steps.{whole-terms}
+use Rattle.bounds.specs.Given.{givenOf}
+use Rattle.bounds.specs.declared.Given.{Given}
+
+-- r is the step x of the round that began with y
+pub record Stage (y : Year) (r : State) (x : Step) : Type 0 where
+  pub is : r ≡ summed x
+  pub whole : Whole y x
+
+-- what depends on weights alone is still given
+given-same : (y z : Year) → z .courses ≡ y .courses → ((i : ℕ) → weight z i ≡ weight y i) → givenOf z ≡ givenOf y
+given-same y z c w = λ i. record { down = down-same y z c w i; up = up-same y z c w i; credits = credits-same y z c w i }
+
+module _ (y : Year) (r : State) (x : Step) (s : Stage y r x) where
+  year-is : r .year ≡ x .year
+  year-is = ap (λ (q : State). q .year) (s .is)
+
+  step-is : stepOf r ≡ x
+  step-is = ap stepOf (s .is)
+
+  pub stage-sound : Sound (r .year)
+  stage-sound = subst Sound (sym year-is) (s .whole .sound)
+
+  pub stage-summed : r ≡ summed (stepOf r)
+  stage-summed = s .is ∙ ap summed (sym step-is)
+
+  pub stage-given : (g : Given) → g ≡ givenOf y → g ≡ givenOf (r .year)
+  stage-given g e = e ∙ sym (given-same y (x .year) (s .whole .courses-same) (s .whole .weight-same)) ∙ ap givenOf (sym year-is)
+
+  -- the next rule over the terms
+  pub stage-next : (f : Year → ℕ → Step) → ((z : Year) (j : ℕ) → Sound z → j < z .terms → Whole z (f z j)) → (q : State) → q ≡ summed (overTerms f (stepOf r)) → Stage y q (overTerms f x)
+  stage-next f law q e = record { is = e ∙ ap (λ (t : Step). summed (overTerms f t)) step-is; whole = whole-terms f y x law (s .whole) }
+
+pub stage-start : (y : Year) (r : State) → Sound y → r ≡ summed (live y) → Stage y r (live y)
+stage-start y r s e = record { is = e; whole = whole-rest y 0 s }
