@@ -18,7 +18,7 @@ pub record Stage (y : Year) (r : State) (x : Step) : Type 0 where
   pub whole : Whole y x
 
 -- what depends on weights alone is still given
-given-same : (y z : Year) → z .courses ≡ y .courses → ((i : ℕ) → weight z i ≡ weight y i) → givenOf z ≡ givenOf y
+pub given-same : (y z : Year) → z .courses ≡ y .courses → ((i : ℕ) → weight z i ≡ weight y i) → givenOf z ≡ givenOf y
 given-same y z c w = λ i. record { down = down-same y z c w i; up = up-same y z c w i; credits = credits-same y z c w i }
 
 module _ (y : Year) (r : State) (x : Step) (s : Stage y r x) where
@@ -43,3 +43,7 @@ module _ (y : Year) (r : State) (x : Step) (s : Stage y r x) where
 
 pub stage-start : (y : Year) (r : State) → Sound y → r ≡ summed (live y) → Stage y r (live y)
 stage-start y r s e = record { is = e; whole = whole-rest y 0 s }
+
+-- what ends the round, once for the year
+pub stage-last : (y : Year) (r : State) (x : Step) → Stage y r x → (f : Step → Step) (q : State) → q ≡ summed (f (stepOf r)) → q ≡ summed (f x)
+stage-last y r x s f q e = e ∙ ap (λ (t : Step). summed (f t)) (ap stepOf (s .is))

@@ -1,0 +1,16 @@
+use borrow.Author.Needs.{needs}
+use Rattle.filter.proofs.rounds.at_rest.Statement.{statement}
+use Rattle.filter.proofs.rounds.at_rest.Tie as tie
+use mathlib.Core.Path.{_∙_, sym}
+
+all-placed-requires : tie.Need-all-placed-requires
+all-placed-requires c κs = search needs
+
+returns : tie.Need-returns
+returns c = simp (sym (c .before .all-placed .ensures) ∙ c .if1 .taken)
+
+returns-2 : tie.Need-returns-2
+returns-2 c = simp (sym (c .before .all-placed .ensures) ∙ c .if1 .left)
+
+pub at-rest-spec : {M : Type 1} → statement M
+at-rest-spec = tie.close (tie.spec all-placed-requires returns returns-2)
