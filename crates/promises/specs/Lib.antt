@@ -9,4 +9,5 @@ pub mod RoundTrip
 pub mod Sequence
 pub mod Table
 pub mod Unique
+pub mod Boundary
 pub mod Demands

@@ -1,0 +1,113 @@
+//! The lists to time, by kind, the same in every run; and files of lists, each list behind its length in two bytes,
+//! high byte first.
+
+use std::fs;
+use std::io;
+use std::path::Path;
+
+use independent::generate::{around_a_plan, corpus_list, edge, Random};
+use independent::records;
+
+/// A kind of lists: the name of its file, what a reader is told of it, and how many are made.
+pub struct Kind {
+    pub name: &'static str,
+    pub words: &'static str,
+    pub count: usize,
+}
+
+/// The kinds of years that the bars hold for.
+pub const KINDS: [Kind; 6] = [
+    Kind { name: "small", words: "small years, 2 to 4 terms, up to 6 courses", count: 200 },
+    Kind { name: "hidden", words: "a hidden plan with little slack, up to 16 by 64", count: 120 },
+    Kind { name: "full", words: "the same, 16 terms by 64 courses", count: 80 },
+    Kind { name: "settled", words: "settled, up to 16 by 64", count: 120 },
+    Kind { name: "noplan", words: "no plan", count: 120 },
+    Kind { name: "real", words: "the real curricula in data/", count: 12 },
+];
+
+/// Reported apart: here rule 11 tries up to 32,001 values of t.
+pub const LARGE: Kind = Kind { name: "large", words: "bounds up to 64,000, weights up to 1,000", count: 60 };
+
+/// The sizes of the growth tables, and how many years are made of each.
+pub const COURSES: [usize; 6] = [8, 16, 24, 32, 48, 64];
+pub const TERMS: [usize; 6] = [2, 4, 6, 8, 12, 16];
+const OF_EACH_SIZE: usize = 60;
+
+const SEED: u64 = 20;
+
+/// The file of the years of a size.
+pub fn sized(terms: usize, courses: usize) -> String {
+    format!("{terms}x{courses}")
+}
+
+/// Writes every file.
+pub fn write_all(folder: &Path) -> io::Result<()> {
+    fs::create_dir_all(folder)?;
+    for kind in KINDS {
+        let lists = if kind.name == "real" { real(Path::new("data"))? } else { made(kind.name, kind.count) };
+        write(&folder.join(kind.name), &lists)?;
+    }
+    write(&folder.join(LARGE.name), &large(LARGE.count))?;
+    for courses in COURSES {
+        write(&folder.join(sized(16, courses)), &of_size(16, courses))?;
+    }
+    for terms in TERMS {
+        write(&folder.join(sized(terms, 64)), &of_size(terms, 64))?;
+    }
+    Ok(())
+}
+
+fn made(kind: &str, count: usize) -> Vec<Vec<u8>> {
+    let mut random = Random::new(SEED);
+    (0..count).map(|_| corpus_list(kind, &mut random).expect("a kind of the independent program")).collect()
+}
+
+/// The curricula, in the order of their names.
+fn real(folder: &Path) -> io::Result<Vec<Vec<u8>>> {
+    let mut paths: Vec<_> = fs::read_dir(folder)?.map(|entry| entry.map(|e| e.path())).collect::<Result<_, _>>()?;
+    paths.retain(|path| path.file_name().map_or(false, |name| name.to_string_lossy().starts_with("bacp")));
+    paths.retain(|path| path.extension().map_or(false, |end| end == "year"));
+    paths.sort();
+    paths.iter().map(fs::read).collect()
+}
+
+/// Years at the edges of the sizes whose highest bound is at least 10,000.
+fn large(count: usize) -> Vec<Vec<u8>> {
+    let mut random = Random::new(SEED);
+    let mut lists = vec![];
+    while lists.len() < count {
+        let year = edge(&mut random);
+        if year.courses.len() > 4 && year.terms.iter().any(|term| term.high_credits >= 10_000) {
+            lists.push(records::bytes(&year));
+        }
+    }
+    lists
+}
+
+/// Years of one size with weights up to 20 and bounds within 2 of a hidden plan.
+fn of_size(terms: usize, courses: usize) -> Vec<Vec<u8>> {
+    let mut random = Random::new(SEED + (terms * 100 + courses) as u64);
+    (0..OF_EACH_SIZE).map(|_| records::bytes(&around_a_plan(&mut random, terms, courses, 20, 2))).collect()
+}
+
+fn write(path: &Path, lists: &[Vec<u8>]) -> io::Result<()> {
+    let mut bytes = vec![];
+    for list in lists {
+        bytes.extend((list.len() as u16).to_be_bytes());
+        bytes.extend(list);
+    }
+    fs::write(path, bytes)
+}
+
+/// The lists of a file.
+pub fn read(path: &Path) -> io::Result<Vec<Vec<u8>>> {
+    let bytes = fs::read(path)?;
+    let mut lists = vec![];
+    let mut at = 0;
+    while at + 2 <= bytes.len() {
+        let length = bytes[at] as usize * 256 + bytes[at + 1] as usize;
+        lists.push(bytes[at + 2..at + 2 + length].to_vec());
+        at += 2 + length;
+    }
+    Ok(lists)
+}

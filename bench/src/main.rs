@@ -1,0 +1,33 @@
+//! Times filtering through the boundary. `bench lists DIR` writes the lists of every kind, `bench count FILE` says how
+//! many a file has, `bench once FILE` filters each once (for counting instructions), `bench tables DIR DOCS` times the library, the independent
+//! program and, where its peer stands in DIR, Gecode, prints the tables and draws the picture in DOCS.
+
+mod corpus;
+mod picture;
+mod tables;
+mod timing;
+
+use std::path::Path;
+use std::process::ExitCode;
+
+fn main() -> ExitCode {
+    let arguments: Vec<String> = std::env::args().skip(1).collect();
+    let words: Vec<&str> = arguments.iter().map(|word| word.as_str()).collect();
+    let done = match words[..] {
+        ["lists", folder] => corpus::write_all(Path::new(folder)),
+        ["count", file] => corpus::read(Path::new(file)).map(|lists| println!("{}", lists.len())),
+        ["once", file] => corpus::read(Path::new(file)).map(|lists| timing::once(&lists)),
+        ["tables", folder, docs] => tables::make(Path::new(folder), Path::new(docs)),
+        _ => {
+            eprintln!("usage: bench lists DIR | count FILE | once FILE | tables DIR DOCS");
+            return ExitCode::from(2);
+        }
+    };
+    match done {
+        Ok(()) => ExitCode::SUCCESS,
+        Err(error) => {
+            eprintln!("bench: {error}");
+            ExitCode::FAILURE
+        }
+    }
+}

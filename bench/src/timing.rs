@@ -1,0 +1,72 @@
+//! The time of one filtering of a list: of the library through its boundary, of the independent program, and of
+//! Gecode through its peer.
+
+use std::io;
+use std::mem;
+use std::path::Path;
+use std::process::Command;
+use std::ptr;
+use std::time::{Duration, Instant};
+
+use independent::planner::{Independent, Planner};
+use independent::traps::Trap;
+use turfsteeple::packed;
+
+/// Batches of a list; the quickest is its time, since whatever disturbs a batch only makes it slower.
+const BATCHES: usize = 9;
+
+/// A batch lasts about this long.
+const BATCH: Duration = Duration::from_micros(300);
+
+/// Filters each list once.
+pub fn once(lists: &[Vec<u8>]) {
+    let mut out = [0; turfsteeple::LONGEST];
+    for list in lists {
+        keep(packed::filter(list, &mut out));
+    }
+}
+
+/// Nanoseconds of one filtering through the boundary, for each list.
+pub fn library(lists: &[Vec<u8>]) -> Vec<f64> {
+    let mut out = [0; turfsteeple::LONGEST];
+    lists.iter().map(|list| quickest(|| packed::filter(list, &mut out))).collect()
+}
+
+/// The same of the independent program.
+pub fn independent(lists: &[Vec<u8>]) -> Vec<f64> {
+    let planner = Independent { trap: Trap::None };
+    let mut out = [0; turfsteeple::LONGEST];
+    lists.iter().map(|list| quickest(|| planner.filter(list, &mut out))).collect()
+}
+
+/// The same of Gecode's root propagation, if its peer stands there.
+pub fn gecode(peer: &Path, file: &Path) -> io::Result<Option<Vec<f64>>> {
+    if !peer.exists() {
+        return Ok(None);
+    }
+    let output = Command::new(peer).arg(file).output()?;
+    let text = String::from_utf8_lossy(&output.stdout).into_owned();
+    Ok(Some(text.lines().filter_map(|line| line.parse().ok()).collect()))
+}
+
+/// The time of a call in the quickest batch, in nanoseconds.
+fn quickest<T>(mut call: impl FnMut() -> T) -> f64 {
+    let start = Instant::now();
+    keep(call());
+    let one = start.elapsed().max(Duration::from_nanos(1));
+    let calls = (BATCH.as_nanos() / one.as_nanos()).clamp(1, 10_000) as u32;
+    let mut best = f64::INFINITY;
+    for _ in 0..BATCHES {
+        let start = Instant::now();
+        for _ in 0..calls {
+            keep(call());
+        }
+        best = best.min(start.elapsed().as_nanos() as f64 / calls as f64);
+    }
+    best
+}
+
+/// Uses an answer in a way that the compiler cannot see through, so that the call is not left out.
+fn keep<T>(answer: T) {
+    mem::forget(unsafe { ptr::read_volatile(&answer) });
+}

@@ -1,0 +1,44 @@
+-- `codes::imbalance`: each arm packs what its case holds; an imbalance is small.
+use mathlib.Core.Path.{_≡_, sym, ap, _∙_}
+use Rattle.boundary.specs.Packed.{measuredCode}
+use Rattle.boundary.proofs.SmallLaws.{imbalance-small}
+use borrow.Author.Needs.{needs}
+use Rattle.boundary.proofs.codes.imbalance.Statement.{statement}
+use Rattle.boundary.proofs.codes.imbalance.Tie as tie
+
+imbalance-requires : tie.Need-imbalance-requires
+imbalance-requires c κs = search needs
+
+enum-known-m : tie.Need-enum-known-m
+enum-known-m c = search needs
+
+pack-requires : tie.Need-pack-requires
+pack-requires c κs = (search needs, imbalance-small _ _ (sym (c .before .before .before .imbalance .ensures) ∙ c .before .m .given .1))
+
+enum-told : tie.Need-enum-told
+enum-told c = search needs
+
+enum-told-2 : tie.Need-enum-told-2
+enum-told-2 c = search needs
+
+returns : tie.Need-returns
+returns c = c .pack .ensures ∙ sym (ap measuredCode (sym (c .before .before .before .before .imbalance .ensures) ∙ c .before .before .m .given .1))
+
+returns-2 : tie.Need-returns-2
+returns-2 c = sym (ap measuredCode (sym (c .before .before .imbalance .ensures) ∙ c .enum-told .given .1))
+
+returns-3 : tie.Need-returns-3
+returns-3 c = sym (ap measuredCode (sym (c .before .before .imbalance .ensures) ∙ c .enum-told2 .given .1))
+
+pub imbalance-spec : {M : Type 1} → statement M
+imbalance-spec =
+    tie.close
+    (tie.spec
+    imbalance-requires
+    enum-known-m
+    pack-requires
+    enum-told
+    enum-told-2
+    returns
+    returns-2
+    returns-3)

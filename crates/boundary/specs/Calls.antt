@@ -1,0 +1,90 @@
+-- The calls on byte lists: what each answers and what it leaves in the lent buffer. Refusals come in rising number: reading's, then 9, then the call's own.
+use Prim.Native.Nat.{ℕ}
+use mathlib.Core.List.{List}
+use lib.Dec.{eqb, ltb}
+use lib.ListN.{length}
+use Rattle.theory.specs.Choice.{choose}
+use Rattle.year.specs.Narrow.{answered, placeOf, barOf, raiseLowCreditsOf, lowerHighCreditsOf, raiseLowCountOf, lowerHighCountOf}
+use Rattle.year.specs.Imbalance.{imbalanceOf}
+use Rattle.year.specs.declared.Year.{Year}
+use Rattle.year.specs.declared.Narrowing.{Narrowing}
+use Rattle.year.specs.declared.Narrowing.the-variants as narrowing
+use Rattle.year.specs.declared.Narrowed.{Narrowed}
+use Rattle.records.specs.Reading.{readList}
+use Rattle.records.specs.Writing.{written}
+use Rattle.records.specs.declared.Reading.{Reading}
+use Rattle.records.specs.declared.Reading.the-variants as reading
+use Rattle.filter.specs.Filter.{filterOf}
+use Rattle.filter.specs.declared.Answer.{Answer}
+use Rattle.filter.specs.declared.Answer.the-variants.{Settled, Open, NoPlan, Unsound}
+use Rattle.filter.specs.declared.Filtered.{Filtered}
+use Rattle.boundary.specs.Packed.{readingCode, shortCode, narrowingCode, measuredCode, answerCode}
+
+-- a call's own answer where the list was read, otherwise reading's
+abbrev pub whenRead : Reading → ℕ → ℕ
+whenRead reading.Done own = own
+whenRead (reading.Refused f k) own = readingCode (reading.Refused f k)
+
+-- what a call leaves in the buffer b where the list was read, otherwise b
+abbrev pub leftWhenRead : Reading → List ℕ → List ℕ → List ℕ
+leftWhenRead reading.Done own b = own
+leftWhenRead (reading.Refused f k) own b = b
+
+-- ---- read, and imbalance
+
+unfoldable pub readCode : List ℕ → ℕ
+readCode s = readingCode (readList s .answer)
+
+unfoldable pub imbalanceCode : List ℕ → ℕ
+imbalanceCode s = whenRead (readList s .answer) (measuredCode (imbalanceOf (readList s .year)))
+
+-- ---- filter
+
+-- the records of the filtered year, where it is settled or open
+abbrev pub filterLeft : Answer → Year → List ℕ → List ℕ
+filterLeft (Settled n) z b = written z b
+filterLeft (Open n) z b = written z b
+filterLeft (NoPlan r n) z b = b
+filterLeft Unsound z b = b
+
+-- the list and the length of the buffer
+unfoldable pub filterCode : List ℕ → ℕ → ℕ
+filterCode s room =
+    whenRead (readList s .answer) (choose (ltb room (length s)) shortCode (answerCode (filterOf (readList s .year) .answer)))
+
+-- the list and the buffer
+unfoldable pub filterOut : List ℕ → List ℕ → List ℕ
+filterOut s b =
+    leftWhenRead (readList s .answer)
+    (choose (ltb (length b) (length s)) b (filterLeft (filterOf (readList s .year) .answer) (filterOf (readList s .year) .year) b))
+    b
+
+-- ---- narrow
+
+-- kinds: 0 place course a in term b, 1 bar course a from term b, 2 to 5 a bound of term a to b; of another kind there is none
+unfoldable pub narrowOf : Year → ℕ → ℕ → ℕ → Narrowed
+narrowOf y kind a b =
+    choose (eqb kind 0) (placeOf y a b)
+    (choose (eqb kind 1) (barOf y a b)
+    (choose (eqb kind 2) (raiseLowCreditsOf y a b)
+    (choose (eqb kind 3) (lowerHighCreditsOf y a b)
+    (choose (eqb kind 4) (raiseLowCountOf y a b)
+    (choose (eqb kind 5) (lowerHighCountOf y a b) (answered narrowing.Missing y))))))
+
+-- the records of the narrowed year, where it is done
+abbrev pub narrowLeft : Narrowing → Year → List ℕ → List ℕ
+narrowLeft narrowing.Done z b = written z b
+narrowLeft narrowing.Unsound z b = b
+narrowLeft narrowing.Missing z b = b
+narrowLeft narrowing.Outside z b = b
+narrowLeft narrowing.Crossing z b = b
+
+unfoldable pub narrowCode : List ℕ → ℕ → ℕ → ℕ → ℕ → ℕ
+narrowCode s kind a b room =
+    whenRead (readList s .answer) (choose (ltb room (length s)) shortCode (narrowingCode (narrowOf (readList s .year) kind a b .answer)))
+
+unfoldable pub narrowOut : List ℕ → ℕ → ℕ → ℕ → List ℕ → List ℕ
+narrowOut s kind a b out =
+    leftWhenRead (readList s .answer)
+    (choose (ltb (length out) (length s)) out (narrowLeft (narrowOf (readList s .year) kind a b .answer) (narrowOf (readList s .year) kind a b .year) out))
+    out

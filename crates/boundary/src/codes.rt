@@ -1,0 +1,90 @@
+// Answers packed into one number.
+use filter::Answer;
+use records::Fault;
+use records::Reading;
+use year::Measured;
+use year::Narrowing;
+use year::Year;
+ghost use mathlib.Core.Path.{_≡_};
+ghost use Prim.Native.Nat.{_<_};
+ghost use Rattle.year.specs.Imbalance.{imbalanceOf};
+ghost use Rattle.records.specs.Numbers.{faultNumber, readingPlace};
+ghost use Rattle.records.specs.declared.Reading.the-variants as reading;
+ghost use Rattle.boundary.specs.Packed.{packed, readingCode, narrowingCode, measuredCode, answerCode};
+
+// The answer to a buffer that is too short.
+pub const SHORT: u64 = 9;
+
+// Number, detail and value in one.
+fn pack(number: u64, detail: u32, value: u64) -> u64
+    requires { ⌜ (number < 256) × (value < 4294967296) ⌝ }
+    ensures { λ r. ⌜ r ≡ packed number detail value ⌝ }
+{
+    number + detail as u64 * 256 + value * 65536
+}
+
+fn fault(f: Fault) -> u64
+    ensures { λ r. ⌜ (r ≡ faultNumber f) × (r < 256) ⌝ }
+{
+    match f {
+        Fault::Length => 1,
+        Fault::Letter => 2,
+        Fault::Number => 3,
+        Fault::Size => 4,
+        Fault::Order => 5,
+        Fault::List => 6,
+        Fault::Padding => 7,
+    }
+}
+
+// A refused list.
+pub fn refused(f: Fault, k: usize) -> u64
+    requires { ⌜ k < 4294967296 ⌝ }
+    ensures { λ r. ⌜ r ≡ readingCode (reading.Refused f k) ⌝ }
+{
+    pack(fault(f), 0, k as u64)
+}
+
+pub fn reading(a: Reading) -> u64
+    requires { ⌜ readingPlace a < 4294967296 ⌝ }
+    ensures { λ r. ⌜ r ≡ readingCode a ⌝ }
+{
+    match a {
+        Reading::Done => 0,
+        Reading::Refused(f, k) => refused(f, k),
+    }
+}
+
+pub fn narrowing(a: Narrowing) -> u64
+    ensures { λ r. ⌜ r ≡ narrowingCode a ⌝ }
+{
+    match a {
+        Narrowing::Done => 0,
+        Narrowing::Unsound => 8,
+        Narrowing::Missing => 10,
+        Narrowing::Outside => 11,
+        Narrowing::Crossing => 12,
+    }
+}
+
+pub fn imbalance(y: Year) -> u64
+    ensures { λ r. ⌜ r ≡ measuredCode (imbalanceOf y) ⌝ }
+{
+    let m = y.imbalance();
+    match m {
+        Measured::Imbalance(v) => pack(0, 0, v),
+        Measured::Unsound => 8,
+        Measured::Unsettled => 14,
+    }
+}
+
+pub fn answer(a: Answer) -> u64
+    ensures { λ r. ⌜ r ≡ answerCode a ⌝ }
+{
+    match a {
+        Answer::Settled(n) => pack(0, 1, n as u64),
+        Answer::Open(n) => pack(0, 2, n as u64),
+        Answer::NoPlan(rule, n) => pack(13, rule, n as u64),
+        Answer::Unsound => 8,
+    }
+}

@@ -1,0 +1,56 @@
+//! The library, through its boundary, as a planner that the independent program can be compared with.
+
+use independent::filter::Answer;
+use independent::planner::Planner;
+use turfsteeple::packed;
+
+/// The proved library. Answers are taken apart strictly: whatever an answer does not name has to be 0.
+pub struct Library;
+
+impl Planner for Library {
+    fn name(&self) -> String {
+        "the library".to_string()
+    }
+
+    fn read(&self, list: &[u8]) -> (u8, usize) {
+        number_and_value("read", packed::read(list), |number| matches!(number, 0..=7), |number| matches!(number, 2..=7))
+    }
+
+    fn filter(&self, list: &[u8], out: &mut [u8]) -> Answer {
+        let answer = packed::filter(list, out);
+        let (detail, value) = (packed::detail(answer), packed::value(answer));
+        match (packed::number(answer), detail) {
+            (0, 1) => Answer::Settled { rounds: value as u32 },
+            (0, 2) => Answer::Open { rounds: value as u32 },
+            (13, 1..=11) => Answer::NoPlan { rule: detail, round: value as u32 },
+            (number @ 2..=7, 0) => Answer::Refused { number, place: value as usize },
+            (number @ (1 | 9), 0) if value == 0 => Answer::Refused { number, place: 0 },
+            _ => panic!("filter answers {answer:#x}"),
+        }
+    }
+
+    fn narrow(&self, list: &[u8], kind: u32, a: u32, b: u32, out: &mut [u8]) -> (u8, usize) {
+        let answer = packed::narrow(list, kind, a, b, out);
+        number_and_value("narrow", answer, |number| matches!(number, 0..=7 | 9..=12), |number| matches!(number, 2..=7))
+    }
+
+    fn imbalance(&self, list: &[u8]) -> (u8, u32) {
+        let answer = packed::imbalance(list);
+        let (number, value) = number_and_value(
+            "imbalance",
+            answer,
+            |number| matches!(number, 0..=7 | 14),
+            |number| matches!(number, 0 | 2..=7),
+        );
+        (number, value as u32)
+    }
+}
+
+/// The number and the value of an answer that has no detail. Only some numbers may be given, and only some of these
+/// with a value other than 0.
+fn number_and_value(call: &str, answer: u64, may_be: fn(u8) -> bool, may_have: fn(u8) -> bool) -> (u8, usize) {
+    let (number, value) = (packed::number(answer), packed::value(answer));
+    let right = may_be(number) && packed::detail(answer) == 0 && (value == 0 || may_have(number));
+    assert!(right, "{call} answers {answer:#x}");
+    (number, value as usize)
+}

@@ -1,0 +1,403 @@
+//! Searches for the smallest years on which each rule matters and each trap shows,
+//! and prints them in markdown. Arguments: years to try for each (default 200,000)
+//! and a seed (default 1).
+
+use independent::compare::hex;
+use independent::filter::{filter, filter_by, run_rule, Answer, IN_ORDER};
+use independent::generate::{small, spoil, Random};
+use independent::listing::{of_answer, terms_with_commas};
+use independent::plans;
+use independent::records::bytes;
+use independent::rules;
+use independent::shrink::{measure, shrink};
+use independent::traps::Trap;
+use independent::year::*;
+
+/// What an example is for, and whether a year shows it.
+struct Wanted {
+    title: String,
+    /// Other rules or another order of them, whose listing is shown beside the right one.
+    others: Vec<Vec<u8>>,
+    trap: Trap,
+    shows: Box<dyn Fn(&Year) -> bool>,
+}
+
+fn main() {
+    let mut arguments = std::env::args().skip(1).map(|text| text.parse().expect("a number"));
+    let tries: u64 = arguments.next().unwrap_or(200_000);
+    let seed: u64 = arguments.next().unwrap_or(1);
+    println!("# Closed examples\n");
+    println!("Small years on which each rule finds no plan or changes the answer, and on which");
+    println!("each trap gives a different result. Made by `independent-examples {tries} {seed}`:");
+    println!("each is the smallest that a random search with shrinking found. Every listing line");
+    println!("ends with a newline. Plans were counted by trying all placings.");
+    for (at, wanted) in all_wanted().iter().enumerate() {
+        let best = smallest(wanted, tries, seed + at as u64);
+        println!("\n## {}. {}\n", at + 1, wanted.title);
+        match best {
+            Some(year) => show(&year, wanted),
+            None => println!("None found."),
+        }
+    }
+}
+
+fn all_wanted() -> Vec<Wanted> {
+    let mut all = vec![];
+    for rule in [1, 2] {
+        all.push(no_plan_by(rule));
+    }
+    all.push(Wanted {
+        title: "Rule 3 strikes, and the answer differs without rule 3".into(),
+        others: vec![all_but(3)],
+        trap: Trap::None,
+        shows: Box::new(|year| word_needs(year, 3) && rule_3_does(year) == (true, false)),
+    });
+    all.push(Wanted {
+        title: "Rule 3 fixes, and the answer differs without rule 3".into(),
+        others: vec![all_but(3)],
+        trap: Trap::None,
+        shows: Box::new(|year| word_needs(year, 3) && rule_3_does(year) == (false, true)),
+    });
+    for rule in 4..=10 {
+        all.push(no_plan_by(rule));
+    }
+    for strikes in [true, false] {
+        let does = if strikes { "strikes" } else { "fixes" };
+        all.push(Wanted {
+            title: format!("Rule 10 {does}, and without rule 10 the listing differs"),
+            others: vec![all_but(10)],
+            trap: Trap::None,
+            shows: Box::new(move |year| {
+                !is_no_plan(year)
+                    && rule_10_does(year) == (strikes, !strikes)
+                    && filter(year, Trap::None) != without(year, 10)
+            }),
+        });
+    }
+    all.push(Wanted {
+        title: "Rule 11 finds no plan by a term whose p exceeds high credits".into(),
+        others: vec![],
+        trap: Trap::None,
+        shows: Box::new(|year| finds_no_plan(year, 11) && p_exceeds_at_rule_11(year)),
+    });
+    all.push(Wanted {
+        title: "Rule 11 finds no plan by its quotient".into(),
+        others: vec![],
+        trap: Trap::None,
+        shows: Box::new(|year| finds_no_plan(year, 11) && !p_exceeds_at_rule_11(year)),
+    });
+    all.push(Wanted {
+        title: "Trap 1: rule 6 on a year that rule 4 has not passed".into(),
+        others: vec![],
+        trap: Trap::SpareBelowZero,
+        shows: Box::new(|year| {
+            finds_no_plan(year, 4) && shows_trap(year, Trap::SpareBelowZero) && spare_slips(year)
+        }),
+    });
+    let exchanged = vec![1, 2, 3, 6, 5, 4, 7, 8, 9, 10, 11];
+    let behind = vec![1, 2, 3, 6, 4, 5, 7, 8, 9, 10, 11];
+    let orders = vec![exchanged, behind];
+    all.push(Wanted {
+        title: "Trap 1 again, with rules 4 and 6 in other orders".into(),
+        others: orders.clone(),
+        trap: Trap::SpareBelowZero,
+        shows: Box::new(move |year| {
+            let right = filter(year, Trap::None);
+            shows_trap(year, Trap::SpareBelowZero)
+                && orders.iter().all(|order| filter_by(year, order, Trap::None) != right)
+        }),
+    });
+    for (title, trap, how) in [
+        (
+            "Trap 2: a course taken without charging every other term",
+            Trap::ChargeOneTerm,
+            Differs::Rule,
+        ),
+        ("Trap 2 again, with another filtered year", Trap::ChargeOneTerm, Differs::Year),
+        (
+            "Trap 3: rule 3 with a p read before an earlier course was fixed",
+            Trap::StaleP,
+            Differs::Rule,
+        ),
+        ("Trap 4: rule 7 stopping at the first skipped course", Trap::StopAtSkip, Differs::Word),
+        ("Trap 5: the quotient of rule 11 rounded down", Trap::RoundDown, Differs::Word),
+    ] {
+        let shows = move |year: &Year| differs(filter(year, Trap::None), filter(year, trap), how);
+        all.push(Wanted { title: title.into(), others: vec![], trap, shows: Box::new(shows) });
+    }
+    all
+}
+
+// ---- What a year shows ----
+
+/// How far the trapped answer must be from the right one: in the first word of the
+/// listing; or in the rule that finds no plan; or in the filtered year.
+#[derive(Clone, Copy)]
+enum Differs {
+    Word,
+    Rule,
+    Year,
+}
+
+fn differs(right: (Answer, Year), wrong: (Answer, Year), how: Differs) -> bool {
+    match how {
+        Differs::Word => word(right.0) != word(wrong.0),
+        Differs::Rule => match (right.0, wrong.0) {
+            (Answer::NoPlan { rule: a, .. }, Answer::NoPlan { rule: b, .. }) => a != b,
+            _ => false,
+        },
+        Differs::Year => word(right.0) == word(wrong.0) && right.1 != wrong.1,
+    }
+}
+
+fn no_plan_by(rule: u8) -> Wanted {
+    Wanted {
+        title: format!("Rule {rule} finds no plan"),
+        others: vec![],
+        trap: Trap::None,
+        shows: Box::new(move |year| finds_no_plan(year, rule)),
+    }
+}
+
+/// The rule finds no plan in round 1.
+fn finds_no_plan(year: &Year, rule: u8) -> bool {
+    filter(year, Trap::None).0 == Answer::NoPlan { rule, round: 1 }
+}
+
+fn is_no_plan(year: &Year) -> bool {
+    matches!(filter(year, Trap::None).0, Answer::NoPlan { .. })
+}
+
+/// The first word of the listing.
+fn word(answer: Answer) -> &'static str {
+    match answer {
+        Answer::Settled { .. } => "SETTLED",
+        Answer::Open { .. } => "OPEN",
+        Answer::NoPlan { .. } => "NOPLAN",
+        Answer::Refused { .. } => "REFUSED",
+    }
+}
+
+/// Without the rule, the first word of the listing differs.
+fn word_needs(year: &Year, rule: u8) -> bool {
+    word(filter(year, Trap::None).0) != word(without(year, rule).0)
+}
+
+/// Filtering with one rule left out.
+fn without(year: &Year, rule: u8) -> (Answer, Year) {
+    filter_by(year, &all_but(rule), Trap::None)
+}
+
+/// The rules in order, one left out.
+fn all_but(rule: u8) -> Vec<u8> {
+    IN_ORDER.into_iter().filter(|&other| other != rule).collect()
+}
+
+fn shows_trap(year: &Year, trap: Trap) -> bool {
+    filter(year, Trap::None) != filter(year, trap)
+}
+
+/// The year as it stands before a rule of round 1; None when no plan is found.
+fn before_rule(year: &Year, rules: &[u8]) -> Option<Year> {
+    let mut now = year.clone();
+    for &rule in rules {
+        run_rule(&mut now, rule, Trap::None).ok()?;
+    }
+    Some(now)
+}
+
+/// Whether a rule strikes and whether it fixes in round 1: a list of several terms
+/// that falls to one by a strike counts as a strike.
+fn rule_3_does(year: &Year) -> (bool, bool) {
+    let mut now = match before_rule(year, &[1, 2]) {
+        Some(now) => now,
+        None => return (false, false),
+    };
+    let (mut strikes, mut fixes) = (false, false);
+    for j in 0..now.terms.len() {
+        let was = now.clone();
+        if rules::rule_3(&mut now, j, Trap::None).is_err() {
+            break;
+        }
+        note_changes(&was, &now, j, &mut strikes, &mut fixes);
+    }
+    (strikes, fixes)
+}
+
+fn rule_10_does(year: &Year) -> (bool, bool) {
+    let mut now = match before_rule(year, &[1, 2, 3, 4, 5, 6, 7, 8, 9]) {
+        Some(now) => now,
+        None => return (false, false),
+    };
+    let (mut strikes, mut fixes) = (false, false);
+    for j in 0..now.terms.len() {
+        let was = now.clone();
+        if rules::rule_10(&mut now, j).is_err() {
+            break;
+        }
+        note_changes(&was, &now, j, &mut strikes, &mut fixes);
+    }
+    (strikes, fixes)
+}
+
+fn note_changes(was: &Year, now: &Year, j: usize, strikes: &mut bool, fixes: &mut bool) {
+    for (a, b) in was.courses.iter().zip(&now.courses) {
+        if a.list != b.list {
+            if b.lists(j) {
+                *fixes = true;
+            } else {
+                *strikes = true;
+            }
+        }
+    }
+}
+
+fn p_exceeds_at_rule_11(year: &Year) -> bool {
+    let now = match before_rule(year, &[1, 2, 3, 4, 5, 6, 7, 8, 9, 10]) {
+        Some(now) => now,
+        None => return false,
+    };
+    (0..now.terms.len()).any(|j| rules::small_p(&now, j) > now.terms[j].high_credits)
+}
+
+/// Without rule 4, rule 6 of round 1 goes through on a year with a spare below 0,
+/// and would not have gone through had the test been for 0 or less.
+fn spare_slips(year: &Year) -> bool {
+    let now = match before_rule(year, &[1, 2, 3, 5]) {
+        Some(now) => now,
+        None => return false,
+    };
+    let mut after = now.clone();
+    if run_rule(&mut after, 6, Trap::None).is_err() {
+        return false;
+    }
+    (0..now.terms.len()).any(|j| !guarded_walk_reaches(&now, j))
+}
+
+/// Rule 6's walk with a test for 0 or less reaches low credits.
+fn guarded_walk_reaches(year: &Year, j: usize) -> bool {
+    let mut spares = rules::spares(year, j);
+    let mut credits = rules::small_p(year, j);
+    let mut courses = rules::open(year, j);
+    courses.sort_by_key(|&i| (-year.courses[i].weight, i));
+    for i in courses {
+        let others: Vec<usize> =
+            (0..year.terms.len()).filter(|&k| k != j && year.courses[i].lists(k)).collect();
+        if credits >= year.terms[j].low_credits {
+            break;
+        }
+        if others.iter().all(|&k| spares[k] > 0) {
+            credits += year.courses[i].weight;
+            others.iter().for_each(|&k| spares[k] -= 1);
+        }
+    }
+    credits >= year.terms[j].low_credits
+}
+
+// ---- The search ----
+
+/// After so many years that show what is wanted, the search ends.
+const ENOUGH: u64 = 3_000;
+
+fn smallest(wanted: &Wanted, tries: u64, seed: u64) -> Option<Year> {
+    let mut random = Random::new(seed);
+    let mut best: Option<Year> = None;
+    let mut found_so_far = 0;
+    for attempt in 0..tries {
+        if found_so_far == ENOUGH {
+            break;
+        }
+        let year = match &best {
+            Some(best) if attempt % 3 == 0 => near(&mut random, best),
+            _ if attempt % 4 == 0 => small(&mut random),
+            _ => tiny(&mut random),
+        };
+        if (wanted.shows)(&year) {
+            found_so_far += 1;
+            let found = shrink(&year, &|next| (wanted.shows)(next));
+            let smaller = match &best {
+                Some(best) => rank(&found) < rank(best),
+                None => true,
+            };
+            if smaller {
+                best = Some(found);
+            }
+        }
+    }
+    best
+}
+
+/// Smaller first; of equal years, fewer rounds and then the earlier bytes.
+fn rank(year: &Year) -> (i64, u32, Vec<u8>) {
+    let rounds = match filter(year, Trap::None).0 {
+        Answer::Settled { rounds } | Answer::Open { rounds } => rounds,
+        _ => 1,
+    };
+    (measure(year), rounds, bytes(year))
+}
+
+/// A year near another: a few numbers and lists altered, at times a course less.
+fn near(random: &mut Random, year: &Year) -> Year {
+    let mut next = year.clone();
+    if !next.courses.is_empty() && random.percent(40) {
+        let i = random.below(next.courses.len());
+        next.courses.remove(i);
+    }
+    for _ in 0..random.from(0, 3) {
+        spoil(random, &mut next);
+    }
+    next
+}
+
+/// A year of few and small numbers.
+fn tiny(random: &mut Random) -> Year {
+    let terms = random.pick(&[1, 2, 2, 3, 3, 3, 4]) as usize;
+    let courses = random.from(0, 5) as usize;
+    let heaviest = random.from(1, 4);
+    let all = (1 << terms) - 1;
+    let courses = (0..courses)
+        .map(|_| Course { weight: random.from(1, heaviest), list: random.from(1, all) as u32 })
+        .collect();
+    let terms = (0..terms)
+        .map(|_| {
+            let (high_credits, high_count) = (random.from(0, 7), random.from(0, 3));
+            let low_credits = if random.percent(50) { 0 } else { random.from(0, high_credits) };
+            let low_count = if random.percent(50) { 0 } else { random.from(0, high_count) };
+            Term { low_credits, high_credits, low_count, high_count }
+        })
+        .collect();
+    Year { terms, courses }
+}
+
+// ---- The page ----
+
+fn show(year: &Year, wanted: &Wanted) {
+    println!("Records:\n\n```\n{}```\n", hex(&bytes(year)));
+    println!("Year: {}\n", in_words(year));
+    let (answer, filtered) = filter(year, Trap::None);
+    println!("Right listing:\n\n```\n{}```\n", of_answer(answer, Some(&filtered)));
+    for rules in &wanted.others {
+        let (answer, filtered) = filter_by(year, rules, Trap::None);
+        let numbers: Vec<String> = rules.iter().map(|rule| rule.to_string()).collect();
+        println!("Listing with rules {}:\n", numbers.join(", "));
+        println!("```\n{}```\n", of_answer(answer, Some(&filtered)));
+    }
+    if wanted.trap != Trap::None {
+        let (answer, filtered) = filter(year, wanted.trap);
+        println!("Listing with the trap:\n\n```\n{}```\n", of_answer(answer, Some(&filtered)));
+    }
+    println!("Plans: {}", plans::all(year).len());
+}
+
+fn in_words(year: &Year) -> String {
+    let terms = year.terms.iter().enumerate().map(|(j, t)| {
+        format!(
+            "term {j}: credits {}-{}, count {}-{}",
+            t.low_credits, t.high_credits, t.low_count, t.high_count
+        )
+    });
+    let courses = year.courses.iter().enumerate().map(|(i, c)| {
+        format!("course {i}: weight {}, terms {}", c.weight, terms_with_commas(c.list))
+    });
+    terms.chain(courses).collect::<Vec<_>>().join("; ") + "."
+}

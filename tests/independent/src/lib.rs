@@ -1,0 +1,18 @@
+//! A second program for document 01, written from its text alone in the most
+//! literal form, so that a proved library can be compared with it.
+
+// `length % 16 == 0` is nearer to document 01's words, and older compilers know it.
+#![allow(clippy::manual_is_multiple_of)]
+
+pub mod compare;
+pub mod filter;
+pub mod generate;
+pub mod listing;
+pub mod narrow;
+pub mod planner;
+pub mod plans;
+pub mod records;
+pub mod rules;
+pub mod shrink;
+pub mod traps;
+pub mod year;
