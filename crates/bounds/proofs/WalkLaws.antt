@@ -1,6 +1,6 @@
 -- The walk course by course: what is left to walk gives what the whole walk gives.
 use Prim.Native.Nat.{ℕ, suc, _+_, _≤_, _<_}
-use mathlib.Core.Bool.{Bool, true, false, not, _&&_, true≢false}
+use mathlib.Core.Bool.{Bool, true, false, not, _&&_, _||_, true≢false}
 use mathlib.Core.List.{List, [], _∷_}
 use mathlib.Core.Path.{_≡_, refl, sym, ap, _∙_}
 use native.Mathlib.Numerals.{add-one}
@@ -36,7 +36,7 @@ module _ {S : Type 0} (T : Table S) (w : ℕ → ℕ) (stop : ℕ → ℕ → �
 
 -- the step by what its three tests say: open, stopped, blocked; s and x are the spares and the credits after the course is taken
 abbrev next : Walk → List ℕ → ℕ → Bool → Bool → Bool → Walk
-next w s x a b d = choose a (choose b (walkAs (w .spare) (w .credits) (w .count) true) (choose d w (walkAs s x (w .count + 1) false))) w
+next w s x a b d = choose a (choose (b || d) (walkAs (w .spare) (w .credits) (w .count) b) (walkAs s x (w .count + 1) false)) w
 
 module _ (cs : List Course) (j : ℕ) (u : Until) where
   -- what a walk that is to go over the courses of o, or has stopped, gives
@@ -57,7 +57,7 @@ module _ (cs : List Course) (j : ℕ) (u : Until) where
       go false b d p q = live-left o w live
       go true true d p q = sym (walk-stop (tableIn cs j) (weightIn cs) (stops u) g (keep (openIn cs j) o) (w .spare) (w .credits) (w .count) p)
       go true false true p q =
-          live-left o w live ∙ sym (walk-skip (tableIn cs j) (weightIn cs) (stops u) g (keep (openIn cs j) o) (w .spare) (w .credits) (w .count) p q)
+          sym (walk-skip (tableIn cs j) (weightIn cs) (stops u) g (keep (openIn cs j) o) (w .spare) (w .credits) (w .count) p q)
       go true false false p q =
           rw add-one (sym (walk-take (tableIn cs j) (weightIn cs) (stops u) g (keep (openIn cs j) o) (w .spare) (w .credits) (w .count) p q))
 

@@ -29,9 +29,9 @@ walkAs s c n d = record { spare = s; credits = c; count = n; done = d }
 unfoldable pub stepped : Walk → Course → ℕ → Until → Walk
 stepped w c j u =
     choose (isOpen c j)
-    (choose (stops u (w .credits) (w .count) (c .weight .0)) (walkAs (w .spare) (w .credits) (w .count) true)
-    (choose (blocked j (w .spare) c) w
-    (walkAs (charged j (w .spare) c) (w .credits + c .weight .0) (w .count + 1) false)))
+    (choose (stops u (w .credits) (w .count) (c .weight .0) || blocked j (w .spare) c)
+    (walkAs (w .spare) (w .credits) (w .count) (stops u (w .credits) (w .count) (c .weight .0)))
+    (walkAs (charged j (w .spare) c) (w .credits + c .weight .0) (w .count + 1) false))
     w
 
 -- ---- the courses of an array

@@ -30,7 +30,7 @@ fn stops(until: Until, credits: u32, count: u32, weight: u32) -> bool
     }
 }
 
-// One course of a walk in term j: passed over if it is not open, skipped if another term that lists it has nothing to spare.
+// One course of a walk in term j: passed over if it is not open, skipped if another term that lists it has nothing to spare. The stop is asked of a course that is skipped too.
 fn walk_step(w: Walk, c: Course, j: usize, until: Until) -> Walk
     requires { ⌜ (j < 16) × (w .credits ≤ 1000000) × (w .count ≤ 1000000) × (c .weight .0 ≤ 1000) ⌝ }
     ensures { λ r. ⌜ r ≡ stepped w c j until ⌝ }
@@ -40,17 +40,15 @@ fn walk_step(w: Walk, c: Course, j: usize, until: Until) -> Walk
         return w;
     }
     let spare = w.spare;
-    if stops(until, w.credits, w.count, c.weight.0) {
+    let others = c.list - doors::power(j);
+    let stop = stops(until, w.credits, w.count, c.weight.0);
+    if stop | spares::blocked(spare, others) {
         return Walk {
             spare: spare,
             credits: w.credits,
             count: w.count,
-            done: true,
+            done: stop,
         };
-    }
-    let others = c.list - doors::power(j);
-    if spares::blocked(spare, others) {
-        return w;
     }
     let rest = spares::charged(spare, others);
     Walk {

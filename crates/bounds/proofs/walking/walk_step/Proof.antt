@@ -1,7 +1,7 @@
--- The four outcomes are the definition's. An open course lists the term, so its list without the term names the other terms.
+-- The three outcomes are the definition's. An open course lists the term, so its list without the term names the other terms.
 use Prim.Native.Nat.{_+_, _-_, _^_, _≤_}
-use mathlib.Core.Bool.{Bool, true, false, not}
-use mathlib.Core.Path.{_≡_, sym, ap, _∙_}
+use mathlib.Core.Bool.{Bool, true, false, not, _||_}
+use mathlib.Core.Path.{_≡_, sym, ap, ap₂, _∙_}
 use native.Mathlib.Omega.{arith}
 use borrow.Author.Tests.{not-true, not-false}
 use borrow.Author.Needs.{needs}
@@ -25,14 +25,17 @@ is-listed c =
     let a = c .before .before .args in
     and-true (lists (a .c) (a .j)) (not (isFixed (a .c) (a .j))) (is-open c) .0
 
--- the last test is the definition's
-is-blocked : (c : tie.After-blocked) → let a = c .before .before .before .before .before .before .before .before .args in c .blocked .result ≡ blocked (a .j) (a .w .spare) (a .c)
-is-blocked c =
-    let e = c .before .before .before .before .before .before in
+-- the second test is the definition's
+test-is : (c : tie.After-blocked) → let a = c .before .before .before .before .before .before .before .args in stops (a .until) (a .w .credits) (a .w .count) (a .c .weight .0) || blocked (a .j) (a .w .spare) (a .c) ≡ c .before .stops .result || c .blocked .result
+test-is c =
+    let p = c .before .before .before in
+    let e = p .before .before in
     let a = e .before .before .args in
+    let is =
     c .blocked .ensures
-    ∙ ap (λ p. any 16 (stuck (a .w .spare) (a .c .list - p))) (c .before .before .power .ensures)
-    ∙ blocked-is (a .w .spare) (a .c) (a .j) (is-listed e)
+    ∙ ap (λ q. any 16 (stuck (a .w .spare) (a .c .list - q))) (p .power .ensures)
+    ∙ blocked-is (a .w .spare) (a .c) (a .j) (is-listed e) in
+    sym (ap₂ _||_ (c .before .stops .ensures) is)
 
 is-open-requires : tie.Need-is-open-requires
 is-open-requires c κs = search needs
@@ -41,57 +44,53 @@ returns : tie.Need-returns
 unfolding stepped
 returns c = (simp (sym (c .before .is-open .ensures) ∙ not-true _ (c .if1 .taken)), search needs)
 
-stops-requires : tie.Need-stops-requires
-stops-requires c κs = search needs
-
-returns-2 : tie.Need-returns-2
-unfolding stepped
-returns-2 c =
-    (simp (is-open (c .before .before .before), sym (c .before .stops .ensures) ∙ c .if2 .taken), search needs)
-
 power-requires : tie.Need-power-requires
 power-requires c κs = search needs
 
 sub-others : tie.Need-sub-others
 sub-others c =
-    let e = c .before .before .before .before .before in
+    let e = c .before .before .before in
     let a = e .before .before .args in
     omega (arith, c .before .power .ensures, has-le (a .c .list) (a .j) (is-listed e))
+
+stops-requires : tie.Need-stops-requires
+stops-requires c κs = search needs
 
 blocked-requires : tie.Need-blocked-requires
 blocked-requires c κs = search needs
 
-returns-3 : tie.Need-returns-3
+returns-2 : tie.Need-returns-2
 unfolding stepped
-returns-3 c =
-    let f = c .before .before .before .before in (
-      simp (is-open (f .before .before .before), sym (f .before .stops .ensures) ∙ f .if2 .left, sym (is-blocked (c .before)) ∙ c .if3 .taken),
+returns-2 c =
+    let b = c .before in
+    let e = b .before .before .before .before .before in
+    let w = e .before .before .args .w in (
+      simp (is-open e, test-is b ∙ c .if2 .taken) (ap (λ t. walkAs (w .spare) (w .credits) (w .count) t) (b .before .stops .ensures)),
       search needs,
     )
 
 charged-requires : tie.Need-charged-requires
 charged-requires c κs = search needs
 
+add-t12 : tie.Need-add-t12
+add-t12 c = search needs
+
 add-t13 : tie.Need-add-t13
 add-t13 c = search needs
 
-add-t14 : tie.Need-add-t14
-add-t14 c = search needs
-
-returns-4 : tie.Need-returns-4
+returns-3 : tie.Need-returns-3
 unfolding stepped
-returns-4 c =
+returns-3 c =
     let h = c .before .before .before in
-    let p = h .before .before .before .before in
-    let f = p .before in
-    let e = f .before .before .before in
+    let b = h .before .before in
+    let p = b .before .before .before in
+    let e = p .before .before in
     let a = e .before .before .args in
-    let rest : h .charged .result ≡ charged (a .j) (a .w .spare) (a .c) =
+    let rest =
     h .charged .ensures
     ∙ ap (λ q. tab 16 (leftAt (a .w .spare) (a .c .list - q))) (p .power .ensures)
     ∙ charged-is (a .w .spare) (a .c) (a .j) (is-listed e) in (
-      simp (is-open e, sym (f .before .stops .ensures) ∙ f .if2 .left, sym (is-blocked (h .before .before)) ∙ h .before .if3 .left)
-          (ap (λ s. walkAs s (a .w .credits + a .c .weight .0) (a .w .count + 1) false) rest),
+      simp (is-open e, test-is b ∙ h .before .if2 .left) (ap (λ s. walkAs s (a .w .credits + a .c .weight .0) (a .w .count + 1) false) rest),
       search needs,
     )
 
@@ -101,13 +100,12 @@ walk-step-spec =
     (tie.spec
     is-open-requires
     returns
-    stops-requires
-    returns-2
     power-requires
     sub-others
+    stops-requires
     blocked-requires
-    returns-3
+    returns-2
     charged-requires
+    add-t12
     add-t13
-    add-t14
-    returns-4)
+    returns-3)
