@@ -1,19 +1,18 @@
 -- A rule on bounds keeps the courses, and so the sums, the orders and all credits.
-use Prim.Native.Nat.{ℕ, zero, suc, _+_, _≤_, _<_}
-use mathlib.Core.Bool.{Bool}
+use Prim.Native.Nat.{ℕ, zero, suc, _≤_, _<_}
 use mathlib.Core.List.{List, []}
-use mathlib.Core.Path.{_≡_, refl, ap, ap₂, _∙_, fun-ext}
+use mathlib.Core.Path.{_≡_, refl, ap, ap₂, fun-ext}
 use native.Mathlib.Omega.{arith}
 use lib.Dec.{eqb}
 use lib.ListN.{getD}
-use Rattle.theory.specs.Choice.{choose, choose-any}
+use Rattle.theory.specs.Choice.{choose-any}
 use Rattle.theory.specs.Tab.{tab}
 use Rattle.year.specs.Year.{zeroCourse, weight}
 use Rattle.year.specs.Sums.{sumsTo, sumsAt}
 use Rattle.year.specs.Sound.{Sound}
 use Rattle.year.specs.declared.Course.{Course}
 use Rattle.year.specs.declared.Year.{Year}
-use Rattle.rules.specs.Step.{step, put, overTo}
+use Rattle.rules.specs.Step.{put, overTo}
 use Rattle.rules.specs.Round.{bounded}
 use Rattle.rules.specs.Bounds.{rule1, rule2, rule4, rule5}
 use Rattle.rules.specs.Spares.{rule6, rule7, rule8, rule9}
@@ -62,6 +61,10 @@ kept-over r s a (suc m) h =
     })
     b
 
+-- what is given depends on the weights alone
+pub given-weights : (y z : Year) → z .courses ≡ y .courses → ((i : ℕ) → weight z i ≡ weight y i) → givenOf z ≡ givenOf y
+given-weights y z c w = λ i. record { down = down-same y z c w i; up = up-same y z c w i; credits = credits-same y z c w i }
+
 -- a year that has these courses alone
 abbrev bare : List Course → Year
 bare cs = record { terms = 0; courses = 0; term = []; course = cs }
@@ -75,8 +78,4 @@ module _ (y z : Year) (k : Kept y z) where
   weights-same i = ap (λ (cs : List Course). getD cs i zeroCourse .weight .0) (k .course-same)
 
   pub given-same : givenOf z ≡ givenOf y
-  given-same =
-      let d = down-same y z (k .courses-same) weights-same in
-      let u = up-same y z (k .courses-same) weights-same in
-      let c = credits-same y z (k .courses-same) weights-same in
-      λ i. record { down = d i; up = u i; credits = c i }
+  given-same = given-weights y z (k .courses-same) weights-same

@@ -1,5 +1,5 @@
 -- The sums of the bounds over all terms, and over the other terms.
-use Prim.Native.Nat.{ℕ, zero, suc, _+_, _-_, _*_, _≤_, _<_}
+use Prim.Native.Nat.{ℕ, zero, suc, _+_, _-_, _≤_, _<_}
 use mathlib.Core.List.{List}
 use mathlib.Core.Path.{_≡_, refl, ap, ap₂, _∙_}
 use native.Mathlib.Omega.{arith}
@@ -26,19 +26,19 @@ totals-more t k =
     let b = sum-more k (highIn t) in
     let d = sum-more k (leastIn t) in
     let e = sum-more k (mostIn t) in
-    λ i. record { low = a i; high = b i; least = d i; most = e i }
+    λ i. record { low = record { 0 = a i }; high = record { 0 = b i }; least = record { 0 = d i }; most = record { 0 = e i } }
 
 pub totals-fit : (t : List Term) (k : ℕ) (x : Totals) → ((i : ℕ) → i < 16 → TermSound (termIn t i)) → k < 16 → x ≡ totalsTo t k
-    → (x .low ≤ 1024000) × (x .high ≤ 1024000) × (x .least ≤ 1024) × (x .most ≤ 1024)
+    → (x .low .0 ≤ 1024000) × (x .high .0 ≤ 1024000) × (x .least .0 ≤ 1024) × (x .most .0 ≤ 1024)
 totals-fit t k x s h e =
     let a = sum-le-mul k 64000 (lowIn t) (λ i l. omega (arith, s i (omega arith))) in
     let b = sum-le-mul k 64000 (highIn t) (λ i l. omega (arith, s i (omega arith))) in
     let d = sum-le-mul k 64 (leastIn t) (λ i l. omega (arith, s i (omega arith))) in
     let f = sum-le-mul k 64 (mostIn t) (λ i l. omega (arith, s i (omega arith))) in (
-      omega (arith, ap (λ (z : Totals). z .low) e),
-      omega (arith, ap (λ (z : Totals). z .high) e),
-      omega (arith, ap (λ (z : Totals). z .least) e),
-      omega (arith, ap (λ (z : Totals). z .most) e),
+      omega (arith, ap (λ (z : Totals). z .low .0) e),
+      omega (arith, ap (λ (z : Totals). z .high .0) e),
+      omega (arith, ap (λ (z : Totals). z .least .0) e),
+      omega (arith, ap (λ (z : Totals). z .most .0) e),
     )
 
 -- ---- in a sound year

@@ -1,5 +1,5 @@
 -- One rule over the terms, turn by turn, and its outcome at a term from what the code reads there.
-use Prim.Native.Nat.{ℕ, zero, suc, _+_, _-_, _*_, _≤_, _<_}
+use Prim.Native.Nat.{ℕ, _+_, _≤_, _<_}
 use mathlib.Core.Bool.{Bool, true, false, _&&_, _||_, true≢false}
 use mathlib.Core.List.{List}
 use mathlib.Core.Path.{_≡_, refl, sym, ap, _∙_, subst}
@@ -7,28 +7,28 @@ use native.Mathlib.Omega.{arith}
 use native.Mathlib.Decide.{ℕ-discrete, decLt}
 use lib.Dec.{eqb, ltb}
 use lib.ListN.{getD, take, List·getD-eq-default}
-use borrow.Author.Tests.{eqb-true, ne-eqb, eqb-false, ltb-true, ltb-false}
-use Rattle.theory.specs.Choice.{choose, choose-any}
-use Rattle.theory.specs.Tests.{and-true, or-false}
+use borrow.Author.Tests.{eqb-true, ne-eqb, ltb-false}
+use Rattle.theory.specs.Choice.{choose-any}
+use Rattle.theory.specs.Tests.{or-false}
 use Rattle.theory.specs.Tab.{tab}
 use Rattle.theory.specs.Order.{heavier, lighter}
 use Rattle.year.specs.Year.{termAt, weight, zeroCourse, withTerm}
-use Rattle.year.specs.Sums.{fixedCredits, openCredits, fixedCount, openCount, allCredits, sumsAt, noSums}
+use Rattle.year.specs.Sums.{fixedCredits, openCredits, fixedCount, openCount, allCredits, sumsAt}
 use Rattle.year.specs.Sound.{Sound}
 use Rattle.year.specs.declared.Course.{Course}
 use Rattle.year.specs.declared.Sums.{Sums}
 use Rattle.year.specs.declared.Year.{Year}
 use Rattle.year.proofs.SumLaws.{all-credits-le, possible-le, counts-le, sums-read}
-use Rattle.rules.specs.Step.{step, put, next, overTo, over-more, overTerms, summed, stepOf}
+use Rattle.rules.specs.Step.{step, next, overTo, over-more, overTerms, summed, stepOf}
 use Rattle.rules.specs.Round.{bounded}
-use Rattle.rules.specs.Spares.{spare, spares, walkOf, down, up, rule6, rule7, rule8, rule9}
+use Rattle.rules.specs.Spares.{spares, walkOf, down, up, rule6, rule7, rule8, rule9}
 use Rattle.rules.specs.declared.Step.{Step}
 use Rattle.rules.specs.declared.State.{State}
 use Rattle.rules.specs.declared.Outcome.{Outcome}
 use Rattle.rules.proofs.Whole.{over-dead}
 use Rattle.bounds.specs.Given.{givenOf}
 use Rattle.bounds.specs.Near.{totalsTo, ownOf, sharedOf}
-use Rattle.bounds.specs.Sparing.{sumsIn, spareIn}
+use Rattle.bounds.specs.Sparing.{sumsIn}
 use Rattle.bounds.specs.Walking.{walkOver, begunOf, untilOf, orderOf, endedOf}
 use Rattle.bounds.specs.Rules.{ruleAt}
 use Rattle.bounds.specs.declared.Given.{Given}

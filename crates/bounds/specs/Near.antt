@@ -33,10 +33,21 @@ mostIn t k = termIn t k .most .0
 
 -- their sums over the first n entries
 abbrev pub totalsTo : List Term → ℕ → Totals
-totalsTo t n = record { low = sum n (lowIn t); high = sum n (highIn t); least = sum n (leastIn t); most = sum n (mostIn t) }
+totalsTo t n = record {
+  low = record { 0 = sum n (lowIn t) };
+  high = record { 0 = sum n (highIn t) };
+  least = record { 0 = sum n (leastIn t) };
+  most = record { 0 = sum n (mostIn t) };
+}
 
+-- with one term more
 abbrev pub totalsWith : Totals → Term → Totals
-totalsWith x t = record { low = x .low + t .low .0; high = x .high + t .high .0; least = x .least + t .least .0; most = x .most + t .most .0 }
+totalsWith x t = record {
+  low = record { 0 = x .low .0 + t .low .0 };
+  high = record { 0 = x .high .0 + t .high .0 };
+  least = record { 0 = x .least .0 + t .least .0 };
+  most = record { 0 = x .most .0 + t .most .0 };
+}
 
 -- ---- the rules
 
@@ -46,16 +57,16 @@ firstOf t u = outcome 1 false t (creditsWithin t (u .fixed .0) (u .possible .0))
 -- the sum over the other terms is the sum over all less the term's own
 abbrev pub secondOf : Term → Totals → ℕ → Outcome
 secondOf t x all =
-    outcome 2 (ltb all (x .low - t .low .0)) t
-    (creditsWithin t (all - (x .high - t .high .0)) (all - (x .low - t .low .0)))
+    outcome 2 (ltb all (x .low .0 - t .low .0)) t
+    (creditsWithin t (all - (x .high .0 - t .high .0)) (all - (x .low .0 - t .low .0)))
 
 abbrev pub fourthOf : Term → Sums → Outcome
 fourthOf t u = outcome 4 false t (countsWithin t (u .placed .0) (u .placed .0 + u .free .0))
 
 abbrev pub fifthOf : Term → Totals → ℕ → Outcome
 fifthOf t x all =
-    outcome 5 (ltb all (x .least - t .least .0)) t
-    (countsWithin t (all - (x .most - t .most .0)) (all - (x .least - t .least .0)))
+    outcome 5 (ltb all (x .least .0 - t .least .0)) t
+    (countsWithin t (all - (x .most .0 - t .most .0)) (all - (x .least .0 - t .least .0)))
 
 abbrev pub ownOf : ℕ → Term → Sums → Outcome
 ownOf rule t u = choose (eqb rule 1) (firstOf t u) (fourthOf t u)

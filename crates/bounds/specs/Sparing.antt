@@ -5,8 +5,6 @@ use mathlib.Core.List.{List}
 use lib.Dec.{eqb}
 use lib.ListN.{getD}
 use Rattle.theory.specs.Sum.{pick}
-use Rattle.theory.specs.Tests.{any}
-use Rattle.theory.specs.Tab.{tab}
 use Rattle.theory.specs.Bits.{has}
 use Rattle.year.specs.Sums.{noSums}
 use Rattle.year.specs.declared.Term.{Term}

@@ -1,9 +1,9 @@
 -- The walk of rules 6 to 9, course by course over an array, and what each rule makes of it.
 use Prim.Native.Nat.{ℕ, _+_}
-use mathlib.Core.Bool.{Bool, true, false, _||_}
+use mathlib.Core.Bool.{Bool, false, _||_}
 use mathlib.Core.List.{List}
 use lib.Dec.{eqb, ltb}
-use lib.ListN.{getD, take}
+use lib.ListN.{getD}
 use Rattle.theory.specs.Choice.{choose}
 use Rattle.theory.specs.Order.{keep}
 use Rattle.theory.specs.Walk.{Table, Reached, walk}

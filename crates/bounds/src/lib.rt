@@ -4,15 +4,12 @@ mod orders;
 mod spares;
 mod walking;
 
-use rules::Outcome;
 use rules::State;
-use year::Course;
-use year::Sums;
-use year::Term;
+use year::Courses;
+use year::Credits;
 use year::Year;
 use year::totals;
 ghost use mathlib.Core.Path.{_≡_};
-ghost use Prim.Native.Nat.{_<_, _≤_};
 ghost use Rattle.year.specs.Sound.{Sound};
 ghost use Rattle.rules.specs.Step.{summed, stepOf, overTerms};
 ghost use Rattle.rules.specs.Round.{bounded};
@@ -28,10 +25,10 @@ pub struct Given {
 
 // The sums of each bound over all terms.
 pub struct Totals {
-    pub low: u32,
-    pub high: u32,
-    pub least: u32,
-    pub most: u32,
+    pub low: Credits,
+    pub high: Credits,
+    pub least: Courses,
+    pub most: Courses,
 }
 
 // A walk on its way: what each other term can still spare, the credits and the count so far, and whether it has stopped.

@@ -1,6 +1,8 @@
 // Rules 1, 2, 4 and 5: a term's bounds against its own sums, and against the other terms' bounds.
 use crate::Totals;
 use rules::Outcome;
+use year::Courses;
+use year::Credits;
 use year::Sums;
 use year::Term;
 use year::Tight;
@@ -39,14 +41,14 @@ pub fn less(a: u32, b: u32) -> u32
 
 fn with_term(x: Totals, t: Term) -> Totals
     requires { ⌜ TermSound t ⌝ }
-    requires { ⌜ (x .low ≤ 1024000) × (x .high ≤ 1024000) × (x .least ≤ 1024) × (x .most ≤ 1024) ⌝ }
+    requires { ⌜ (x .low .0 ≤ 1024000) × (x .high .0 ≤ 1024000) × (x .least .0 ≤ 1024) × (x .most .0 ≤ 1024) ⌝ }
     ensures { λ r. ⌜ r ≡ totalsWith x t ⌝ }
 {
     Totals {
-        low: x.low + t.low.0,
-        high: x.high + t.high.0,
-        least: x.least + t.least.0,
-        most: x.most + t.most.0,
+        low: Credits(x.low.0 + t.low.0),
+        high: Credits(x.high.0 + t.high.0),
+        least: Courses(x.least.0 + t.least.0),
+        most: Courses(x.most.0 + t.most.0),
     }
 }
 
@@ -56,10 +58,10 @@ pub fn totals(term: [Term; 16]) -> Totals
     ensures { λ r. ⌜ r ≡ totalsTo term 16 ⌝ }
 {
     let mut x = Totals {
-        low: 0,
-        high: 0,
-        least: 0,
-        most: 0,
+        low: Credits(0),
+        high: Credits(0),
+        least: Courses(0),
+        most: Courses(0),
     };
     for k in 0..16 {
         x = with_term(x, term[k]);
@@ -81,8 +83,8 @@ fn first(t: Term, u: Sums) -> Outcome
 fn second(t: Term, x: Totals, all: u32) -> Outcome
     ensures { λ r. ⌜ r ≡ secondOf t x all ⌝ }
 {
-    let lows = less(x.low, t.low.0);
-    let highs = less(x.high, t.high.0);
+    let lows = less(x.low.0, t.low.0);
+    let highs = less(x.high.0, t.high.0);
     outcome(
         2,
         all < lows,
@@ -106,13 +108,13 @@ fn fourth(t: Term, u: Sums) -> Outcome
 fn fifth(t: Term, x: Totals, all: u32) -> Outcome
     ensures { λ r. ⌜ r ≡ fifthOf t x all ⌝ }
 {
-    let lows = less(x.least, t.least.0);
-    let highs = less(x.most, t.most.0);
+    let leasts = less(x.least.0, t.least.0);
+    let mosts = less(x.most.0, t.most.0);
     outcome(
         5,
-        all < lows,
+        all < leasts,
         t,
-        bounds::counts_within(t, less(all, highs), less(all, lows)),
+        bounds::counts_within(t, less(all, mosts), less(all, leasts)),
     )
 }
 

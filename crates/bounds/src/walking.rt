@@ -13,7 +13,7 @@ use year::doors;
 use year::totals;
 ghost use mathlib.Core.Path.{_≡_};
 ghost use mathlib.Core.Bool.{false};
-ghost use Prim.Native.Nat.{ℕ, _+_, _*_, _≤_, _<_};
+ghost use Prim.Native.Nat.{ℕ, _+_, _≤_, _<_};
 ghost use lib.ListN.{getD, take};
 ghost use Rattle.rules.specs.Spares.{stops};
 ghost use Rattle.bounds.specs.Walking.{stepped, weightIn, walkOver, reached, begunOf, untilOf, orderOf, endedOf};

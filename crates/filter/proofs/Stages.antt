@@ -2,24 +2,20 @@
 use Prim.Native.Nat.{ℕ, _<_}
 use mathlib.Core.Path.{_≡_, refl, sym, ap, _∙_, subst}
 use Rattle.year.specs.Sound.{Sound}
-use Rattle.year.specs.Year.{weight}
 use Rattle.year.specs.declared.Year.{Year}
 use Rattle.rules.specs.Step.{live, summed, stepOf, overTerms}
 use Rattle.rules.specs.declared.Step.{Step}
 use Rattle.rules.specs.declared.State.{State}
-use Rattle.rules.proofs.Whole.{Whole, whole-rest, down-same, up-same, credits-same}
+use Rattle.rules.proofs.Whole.{Whole, whole-rest}
 use Rattle.rules.proofs.Steps.{whole-terms}
 use Rattle.bounds.specs.Given.{givenOf}
 use Rattle.bounds.specs.declared.Given.{Given}
+use Rattle.bounds.proofs.KeptLaws.{given-weights}
 
 -- r is the step x of the round that began with y
 pub record Stage (y : Year) (r : State) (x : Step) : Type 0 where
   pub is : r ≡ summed x
   pub whole : Whole y x
-
--- what depends on weights alone is still given
-pub given-same : (y z : Year) → z .courses ≡ y .courses → ((i : ℕ) → weight z i ≡ weight y i) → givenOf z ≡ givenOf y
-given-same y z c w = λ i. record { down = down-same y z c w i; up = up-same y z c w i; credits = credits-same y z c w i }
 
 module _ (y : Year) (r : State) (x : Step) (s : Stage y r x) where
   year-is : r .year ≡ x .year
@@ -35,7 +31,7 @@ module _ (y : Year) (r : State) (x : Step) (s : Stage y r x) where
   stage-summed = s .is ∙ ap summed (sym step-is)
 
   pub stage-given : (g : Given) → g ≡ givenOf y → g ≡ givenOf (r .year)
-  stage-given g e = e ∙ sym (given-same y (x .year) (s .whole .courses-same) (s .whole .weight-same)) ∙ ap givenOf (sym year-is)
+  stage-given g e = e ∙ sym (given-weights y (x .year) (s .whole .courses-same) (s .whole .weight-same)) ∙ ap givenOf (sym year-is)
 
   -- the next rule over the terms
   pub stage-next : (f : Year → ℕ → Step) → ((z : Year) (j : ℕ) → Sound z → j < z .terms → Whole z (f z j)) → (q : State) → q ≡ summed (overTerms f (stepOf r)) → Stage y q (overTerms f x)

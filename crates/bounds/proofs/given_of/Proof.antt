@@ -1,5 +1,5 @@
 -- The orders over the weights in the array are the year's.
-use mathlib.Core.Path.{_≡_, _∙_}
+use mathlib.Core.Path.{_∙_}
 use borrow.Author.Needs.{needs}
 use Rattle.bounds.proofs.OrderLaws.{weights-fit, down-is, up-is}
 use Rattle.bounds.proofs.given_of.Statement.{statement}

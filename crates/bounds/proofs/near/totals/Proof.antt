@@ -1,5 +1,5 @@
 -- The loop's invariant: the totals so far are those of the first k entries. None overflows: an entry's bounds are within the sizes.
-use Prim.Native.Nat.{_≤_, _<_, _-_}
+use Prim.Native.Nat.{_≤_, _-_}
 use mathlib.Core.Path.{_≡_, sym, ap, _∙_}
 use native.Mathlib.Omega.{arith}
 use borrow.Author.Needs.{needs}

@@ -2,7 +2,7 @@
 use Prim.Native.Nat.{ℕ, _≤_, _-_}
 use mathlib.Core.Path.{_≡_, sym, ap, ap₂, _∙_}
 use native.Mathlib.Omega.{arith}
-use lib.ListN.{length, getD, replicate, set, length-replicate}
+use lib.ListN.{length, replicate, set, length-replicate}
 use borrow.Author.Needs.{needs}
 use Rattle.theory.specs.Tab.{fill, fill-more, fill-all, length-fill}
 use Rattle.bounds.specs.Sparing.{leftAt}

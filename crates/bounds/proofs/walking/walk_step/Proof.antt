@@ -1,6 +1,6 @@
 -- The three outcomes are the definition's. An open course lists the term, so its list without the term names the other terms.
-use Prim.Native.Nat.{_+_, _-_, _^_, _≤_}
-use mathlib.Core.Bool.{Bool, true, false, not, _||_}
+use Prim.Native.Nat.{_+_, _-_}
+use mathlib.Core.Bool.{true, false, not, _||_}
 use mathlib.Core.Path.{_≡_, sym, ap, ap₂, _∙_}
 use native.Mathlib.Omega.{arith}
 use borrow.Author.Tests.{not-true, not-false}

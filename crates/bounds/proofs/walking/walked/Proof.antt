@@ -1,11 +1,11 @@
 -- The loop's invariant: what is left to walk gives what the whole walk gives. Each course adds at most 1,000 credits.
-use Prim.Native.Nat.{ℕ, _+_, _*_, _≤_, _<_, _-_}
+use Prim.Native.Nat.{_+_, _*_, _≤_, _<_, _-_}
 use mathlib.Core.Bool.{false}
 use mathlib.Core.Path.{_≡_, sym, _∙_}
 use native.Mathlib.Omega.{arith}
 use lib.ListN.{length, getD, take, drop}
 use borrow.Author.Needs.{needs}
-use Rattle.bounds.specs.Walking.{walkOver, weightIn}
+use Rattle.bounds.specs.Walking.{walkOver}
 use Rattle.bounds.proofs.WalkLaws.{left, live-left, goes-on, turn-at, ended-at}
 use Rattle.bounds.proofs.walking.walked.Statement.{statement}
 use Rattle.bounds.proofs.walking.walked.Tie as tie

@@ -21,7 +21,7 @@ use Rattle.filter.specs.Filter.{filtered, atRest, roundsFrom}
 use Rattle.filter.specs.declared.Answer.{Answer}
 use Rattle.filter.specs.declared.Answer.the-variants.{NoPlan}
 use Rattle.filter.proofs.RoundLaws.{left, dies, rests, goes-on, round-falls}
-use Rattle.filter.proofs.Stages.{given-same}
+use Rattle.bounds.proofs.KeptLaws.{given-weights}
 
 abbrev Inv-loop : tie.InvT-loop
 Inv-loop y g s₀ n₀ s n =
@@ -128,7 +128,7 @@ loop-again c =
         rule = c .before .before .before .if1 .left i;
       },
       sound-next r,
-      r .before .loop .inv .4 ∙ sym (given-same (z r) (round (z r) .year) (w .courses-same) (w .weight-same)) ∙ ap givenOf (sym (year-is r)),
+      r .before .loop .inv .4 ∙ sym (given-weights (z r) (round (z r) .year) (w .courses-same) (w .weight-same)) ∙ ap givenOf (sym (year-is r)),
     )
 
 pub run-spec : {M : Type 1} → statement M
