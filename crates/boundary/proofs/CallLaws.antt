@@ -1,19 +1,29 @@
 -- How each call ends, as equations on its definition: the list is refused, the buffer is short, or the call does its own.
-use Prim.Native.Nat.{ℕ, _≤_, _<_}
+use Prim.Native.Nat.{ℕ, _+_, _*_, _/_, _≤_, _<_}
 use mathlib.Core.List.{List}
 use mathlib.Core.Path.{_≡_, refl, sym, ap, _∙_}
 use lib.ListN.{length}
 use borrow.Author.Tests.{lt-ltb, le-ltb}
 use Rattle.year.specs.Imbalance.{imbalanceOf}
+use Rattle.year.specs.Sound.{Sound}
 use Rattle.records.specs.declared.Fault.{Fault}
 use Rattle.records.specs.declared.Reading.the-variants.{Done, Refused}
 use Rattle.records.specs.declared.Received.{Received}
-use Rattle.records.specs.Reading.{readList}
+use Rattle.records.specs.Reading.{readList, done}
+use Rattle.records.proofs.ListLaws.{read-front, list-read, read-sound}
 use Rattle.filter.specs.Filter.{filterOf}
 use Rattle.boundary.specs.Packed.{readingCode, shortCode, narrowingCode, measuredCode, answerCode}
 use Rattle.boundary.specs.Calls.{readCode, imbalanceCode, filterLeft, filterCode, filterOut, narrowOf, narrowLeft, narrowCode, narrowOut}
 
 module _ (s : List ℕ) (got : Received) (is : got ≡ readList s) where
+  -- a year that was read is sound, and its records are the list
+  pub read-year : got .answer ≡ Done → Sound (got .year) × ((got .year .terms + got .year .courses) * 16 ≡ length s)
+  read-year a =
+      let e : readList s ≡ done (got .year) = sym is ∙ (λ i. record { answer = a i; year = got .year }) in
+      let l = list-read s (got .year) e in
+      let f = read-front s (length s / 16) (got .year) (l .2) in
+      (read-sound s (got .year) e, ap (λ k. k * 16) (f .count) ∙ l .1)
+
   pub read-ends : (r : ℕ) → r ≡ readingCode (got .answer) → r ≡ readCode s
   unfolding readCode
   read-ends r e = rw (sym is) e

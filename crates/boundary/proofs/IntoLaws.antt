@@ -1,7 +1,8 @@
 -- A year filtered or narrowed into a buffer: the buffer after each ending.
-use Prim.Native.Nat.{ℕ}
+use Prim.Native.Nat.{ℕ, _+_, _*_, _≤_}
 use mathlib.Core.List.{List}
 use mathlib.Core.Path.{_≡_, refl, sym, ap, _∙_}
+use Rattle.year.specs.Sound.{Sound}
 use Rattle.year.specs.declared.Year.{Year}
 use Rattle.year.specs.declared.Narrowed.{Narrowed}
 use Rattle.year.specs.declared.Narrowing.{Narrowing}
@@ -9,6 +10,7 @@ use Rattle.records.specs.Writing.{written}
 use Rattle.filter.specs.Filter.{filterOf}
 use Rattle.filter.specs.declared.Answer.{Answer}
 use Rattle.filter.specs.declared.Filtered.{Filtered}
+use Rattle.filter.proofs.RoundLaws.{filter-same}
 use Rattle.boundary.specs.Packed.{answerCode, narrowingCode}
 use Rattle.boundary.specs.Calls.{filterLeft, narrowOf, narrowLeft}
 
@@ -18,6 +20,12 @@ module _ (y : Year) (f : Filtered) (is : f ≡ filterOf y) (r : ℕ) (code : r �
       → (r ≡ answerCode (filterOf y .answer)) × (o ≡ filterLeft (filterOf y .answer) (filterOf y .year) b)
   filter-ends a e w =
       (rw (sym is) code, rw (sym is) (w ∙ ap (λ (x : Answer). filterLeft x (f .year) b) (sym e)))
+
+-- the filtered year is sound, and its records are as many
+pub filtered-fits : (y : Year) (f : Filtered) → f ≡ filterOf y → Sound y → (room : ℕ) → (y .terms + y .courses) * 16 ≤ room → Sound (f .year) × ((f .year .terms + f .year .courses) * 16 ≤ room)
+filtered-fits y f is s room h =
+    let a = filter-same y s in
+    rw is (a .sound, rw (a .terms-same, a .courses-same) h)
 
 module _ (y : Year) (kind i j : ℕ) (n : Narrowed) (is : n ≡ narrowOf y kind i j) (r : ℕ) (code : r ≡ narrowingCode (n .answer)) (b o : List ℕ) where
   pub narrow-ends : (a : Narrowing) → n .answer ≡ a → o ≡ narrowLeft a (n .year) b

@@ -70,7 +70,7 @@ pub fn narrowing(a: Narrowing) -> u64
 pub fn imbalance(y: Year) -> u64
     ensures { λ r. ⌜ r ≡ measuredCode (imbalanceOf y) ⌝ }
 {
-    let m = y.imbalance();
+    let m = totals::measure::imbalance(y);
     match m {
         Measured::Imbalance(v) => pack(0, 0, v),
         Measured::Unsound => 8,

@@ -7,25 +7,31 @@ use year::Narrowed;
 use year::Narrowing;
 use year::Year;
 ghost use mathlib.Core.Path.{_≡_};
+ghost use Prim.Native.Nat.{_+_, _*_, _≤_};
+ghost use lib.ListN.{length};
+ghost use Rattle.year.specs.Sound.{Sound};
 ghost use Rattle.filter.specs.Filter.{filterOf};
 ghost use Rattle.boundary.specs.Packed.{answerCode, narrowingCode};
 ghost use Rattle.boundary.specs.Calls.{filterLeft, narrowOf, narrowLeft};
 
+// Filters a year that was read into a list as long as the one that it was read from.
 pub fn filter_into(y: Year, out: &mut [u8]) -> u64
+    requires { ⌜ Sound y ⌝ }
+    requires { ⌜ (y .terms + y .courses) * 16 ≤ length (now out) ⌝ }
     ensures { λ r. ⌜ r ≡ answerCode (filterOf y .answer) ⌝ }
     ensures { λ _. ⌜ now (out .exit) ≡ filterLeft (filterOf y .answer) (filterOf y .year) (now (out .entry)) ⌝ }
 {
-    let f = filter::filter(y);
+    let f = filter::filter_sound(y);
     let a = f.answer;
     let z = f.year;
     let code = codes::answer(a);
     match a {
         Answer::Settled(_) => {
-            records::write(z, out);
+            records::write_sound(z, out);
             code
         }
         Answer::Open(_) => {
-            records::write(z, out);
+            records::write_sound(z, out);
             code
         }
         Answer::NoPlan(_, _) => code,

@@ -1,7 +1,5 @@
--- Laws for the proofs of the code, and for those who call it.
+-- Laws for the proofs of the code, and for the walks above.
 pub mod NearLaws
-pub mod OrderLaws
-pub mod SparingLaws
-pub mod WalkLaws
 pub mod KeptLaws
-pub mod RuleLaws
+pub mod TurnLaws
+pub mod StageLaws

@@ -4,8 +4,11 @@ use mathlib.Core.List.{List}
 use mathlib.Core.Path.{_≡_, refl, ap, ap₂, _∙_}
 use native.Mathlib.Omega.{arith}
 use native.Mathlib.Decide.{ℕ-discrete, decLt}
-use lib.Dec.{ltb}
-use Rattle.theory.specs.Sum.{sum, sum-more, sum-le-mul}
+use lib.Dec.{eqb, ltb}
+use lib.ListN.{length, set}
+use lib.Seq.{getD-set-same, getD-set-other}
+use Rattle.theory.specs.Choice.{choose-any}
+use Rattle.theory.specs.Sum.{sum, sum-more, sum-le-mul, sum-change, sum-term-le}
 use Rattle.theory.specs.Load.{others, others-split}
 use Rattle.year.specs.Year.{termAt, zeroTerm}
 use Rattle.year.specs.Sums.{allCredits, fixedCredits, openCredits, fixedCount, openCount, sumsAt}
@@ -13,9 +16,12 @@ use Rattle.year.specs.Sound.{Sound, TermSound}
 use Rattle.year.specs.Tight.{creditsWithin, countsWithin}
 use Rattle.year.specs.declared.Term.{Term}
 use Rattle.year.specs.declared.Year.{Year}
+use Rattle.year.specs.Parts.{termIn, highIn}
 use Rattle.rules.specs.Step.{outcome}
 use Rattle.rules.specs.Bounds.{rule1, rule2, rule4, rule5}
-use Rattle.bounds.specs.Near.{termIn, lowIn, highIn, leastIn, mostIn, totalsTo, totalsWith, firstOf, secondOf, fourthOf, fifthOf}
+use Rattle.rules.specs.declared.Outcome.{Outcome}
+use Rattle.rules.proofs.Steps.{credits-tighter, counts-tighter}
+use Rattle.bounds.specs.Near.{lowIn, leastIn, mostIn, totalsTo, totalsWith, totalsAfter, firstOf, secondOf, fourthOf, fifthOf, sharedOf}
 use Rattle.bounds.specs.declared.Totals.{Totals}
 
 -- ---- one entry more
@@ -28,7 +34,7 @@ totals-more t k =
     let e = sum-more k (mostIn t) in
     λ i. record { low = record { 0 = a i }; high = record { 0 = b i }; least = record { 0 = d i }; most = record { 0 = e i } }
 
-pub totals-fit : (t : List Term) (k : ℕ) (x : Totals) → ((i : ℕ) → i < 16 → TermSound (termIn t i)) → k < 16 → x ≡ totalsTo t k
+pub totals-fit : (t : List Term) (k : ℕ) (x : Totals) → ((i : ℕ) → i < 16 → TermSound (termIn t i)) → k ≤ 16 → x ≡ totalsTo t k
     → (x .low .0 ≤ 1024000) × (x .high .0 ≤ 1024000) × (x .least .0 ≤ 1024) × (x .most .0 ≤ 1024)
 totals-fit t k x s h e =
     let a = sum-le-mul k 64000 (lowIn t) (λ i l. omega (arith, s i (omega arith))) in
@@ -40,6 +46,54 @@ totals-fit t k x s h e =
       omega (arith, ap (λ (z : Totals). z .least .0) e),
       omega (arith, ap (λ (z : Totals). z .most .0) e),
     )
+
+-- ---- one entry altered
+
+module _ (t : List Term) (j : ℕ) (l : j < 16) where
+  -- an entry is among the sums
+  pub entry-le : (x : Totals) → x ≡ totalsTo t 16 → (lowIn t j ≤ x .low .0) × (highIn t j ≤ x .high .0) × (leastIn t j ≤ x .least .0) × (mostIn t j ≤ x .most .0)
+  entry-le x e = (
+    omega (arith, sum-term-le 16 j (lowIn t) l, ap (λ (z : Totals). z .low .0) e),
+    omega (arith, sum-term-le 16 j (highIn t) l, ap (λ (z : Totals). z .high .0) e),
+    omega (arith, sum-term-le 16 j (leastIn t) l, ap (λ (z : Totals). z .least .0) e),
+    omega (arith, sum-term-le 16 j (mostIn t) l, ap (λ (z : Totals). z .most .0) e),
+  )
+
+  module _ (long : length t ≡ 16) (v : Term) where
+    set-at : (P : Term → Term → Type 0) → P (termIn t j) v → ((k : ℕ) → P (termIn t k) (termIn t k)) → (k : ℕ) → P (termIn t k) (termIn (set t j v) k)
+    set-at P new old k = go (ℕ-discrete k j)
+      where
+        go : Dec (k ≡ j) → P (termIn t k) (termIn (set t j v) k)
+        go (yes e) = rw (e, getD-set-same t j v zeroTerm (omega arith)) new
+        go (no ne) = rw (getD-set-other t j k v zeroTerm ne) (old k)
+
+    pub set-sound : TermSound v → ((k : ℕ) → k < 16 → TermSound (termIn t k)) → (k : ℕ) → k < 16 → TermSound (termIn (set t j v) k)
+    set-sound new old k h = set-at (λ a b. TermSound a → TermSound b) (λ s. new) (λ i s. s) k (old k h)
+
+    sum-set : (f : Term → ℕ) → sum 16 (λ k. f (termIn t k)) - f (termIn t j) + f v ≡ sum 16 (λ k. f (termIn (set t j v) k))
+    sum-set f =
+        let here : f (termIn (set t j v) j) ≡ f v = ap f (getD-set-same t j v zeroTerm (omega arith)) in
+        omega (
+          arith,
+          sum-term-le 16 j (λ k. f (termIn t k)) l,
+          sum-change 16 j (λ k. f (termIn (set t j v) k)) (λ k. f (termIn t k)) l (λ k h ne. ap f (getD-set-other t j k v zeroTerm ne)),
+        )
+
+    pub totals-set : (x : Totals) → x ≡ totalsTo t 16 → totalsAfter x (termIn t j) v ≡ totalsTo (set t j v) 16
+    totals-set x e =
+        let a = sum-set (λ (z : Term). z .low .0) in
+        let b = sum-set (λ (z : Term). z .high .0) in
+        let c = sum-set (λ (z : Term). z .least .0) in
+        let d = sum-set (λ (z : Term). z .most .0) in
+        ap (λ z. totalsAfter z (termIn t j) v) e
+        ∙ (λ i. record { low = record { 0 = a i }; high = record { 0 = b i }; least = record { 0 = c i }; most = record { 0 = d i } })
+
+-- a rule on bounds leaves a term within the sizes
+pub shared-sound : (r : ℕ) (t : Term) (x : Totals) (all : ℕ) → TermSound t → TermSound (sharedOf r t x all .term)
+shared-sound r t x all s =
+    choose-any (λ (o : Outcome). TermSound (o .term)) (eqb r 2) (secondOf t x all) (fifthOf t x all)
+    (credits-tighter 2 _ t _ _ s .sound)
+    (counts-tighter 5 _ t _ _ s .sound)
 
 -- ---- in a sound year
 

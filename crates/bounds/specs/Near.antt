@@ -3,10 +3,9 @@ use Prim.Native.Nat.{ℕ, _+_, _-_}
 use mathlib.Core.Bool.{false}
 use mathlib.Core.List.{List}
 use lib.Dec.{eqb, ltb}
-use lib.ListN.{getD}
 use Rattle.theory.specs.Choice.{choose}
 use Rattle.theory.specs.Sum.{sum}
-use Rattle.year.specs.Year.{zeroTerm}
+use Rattle.year.specs.Parts.{termIn, highIn, sumsIn}
 use Rattle.year.specs.Tight.{creditsWithin, countsWithin}
 use Rattle.year.specs.declared.Term.{Term}
 use Rattle.year.specs.declared.Sums.{Sums}
@@ -16,14 +15,8 @@ use Rattle.bounds.specs.declared.Totals.{Totals}
 
 -- ---- the bounds of the terms in an array
 
-abbrev pub termIn : List Term → ℕ → Term
-termIn t k = getD t k zeroTerm
-
 abbrev pub lowIn : List Term → ℕ → ℕ
 lowIn t k = termIn t k .low .0
-
-abbrev pub highIn : List Term → ℕ → ℕ
-highIn t k = termIn t k .high .0
 
 abbrev pub leastIn : List Term → ℕ → ℕ
 leastIn t k = termIn t k .least .0
@@ -31,7 +24,7 @@ leastIn t k = termIn t k .least .0
 abbrev pub mostIn : List Term → ℕ → ℕ
 mostIn t k = termIn t k .most .0
 
--- their sums over the first n entries
+-- the sums of the bounds over the first n entries
 abbrev pub totalsTo : List Term → ℕ → Totals
 totalsTo t n = record {
   low = record { 0 = sum n (lowIn t) };
@@ -47,6 +40,15 @@ totalsWith x t = record {
   high = record { 0 = x .high .0 + t .high .0 };
   least = record { 0 = x .least .0 + t .least .0 };
   most = record { 0 = x .most .0 + t .most .0 };
+}
+
+-- with one term altered from t to v
+abbrev pub totalsAfter : Totals → Term → Term → Totals
+totalsAfter x t v = record {
+  low = record { 0 = x .low .0 - t .low .0 + v .low .0 };
+  high = record { 0 = x .high .0 - t .high .0 + v .high .0 };
+  least = record { 0 = x .least .0 - t .least .0 + v .least .0 };
+  most = record { 0 = x .most .0 - t .most .0 + v .most .0 };
 }
 
 -- ---- the rules
@@ -71,5 +73,13 @@ fifthOf t x all =
 abbrev pub ownOf : ℕ → Term → Sums → Outcome
 ownOf rule t u = choose (eqb rule 1) (firstOf t u) (fourthOf t u)
 
-abbrev pub sharedOf : ℕ → Term → Totals → ℕ → ℕ → Outcome
-sharedOf rule t x credits courses = choose (eqb rule 2) (secondOf t x credits) (fifthOf t x courses)
+abbrev pub sharedOf : ℕ → Term → Totals → ℕ → Outcome
+sharedOf rule t x all = choose (eqb rule 2) (secondOf t x all) (fifthOf t x all)
+
+-- ---- at term j of an array
+
+abbrev pub ownAt : ℕ → List Sums → List Term → ℕ → Outcome
+ownAt rule u t j = ownOf rule (termIn t j) (sumsIn u j)
+
+abbrev pub sharedAt : ℕ → ℕ → List Term → ℕ → Outcome
+sharedAt rule all t j = sharedOf rule (termIn t j) (totalsTo t 16) all

@@ -1,26 +1,23 @@
-// Rules 1, 2 and 4 to 9: the rules that alter bounds alone, each over the terms of the year.
-mod near;
-mod orders;
-mod spares;
-mod walking;
+// Rules 1, 2, 4 and 5: a term's bounds against its own sums, and against the other terms' bounds, over the terms of the year.
+pub mod near;
 
 use rules::State;
 use year::Courses;
 use year::Credits;
-use year::Year;
-use year::totals;
+use year::Term;
 ghost use mathlib.Core.Path.{_≡_};
+ghost use Rattle.year.specs.Sums.{allCredits};
 ghost use Rattle.year.specs.Sound.{Sound};
-ghost use Rattle.rules.specs.Step.{summed, stepOf, overTerms};
+ghost use Rattle.rules.specs.Step.{overTerms, held, yearIn, stepIn};
+ghost use Rattle.rules.specs.Bounds.{rule1, rule2, rule4, rule5};
 ghost use Rattle.rules.specs.Round.{bounded};
-ghost use Rattle.bounds.specs.Given.{givenOf};
-ghost use Rattle.bounds.specs.Rules.{ruleAt};
+ghost use Rattle.bounds.specs.Turns.{withBounds};
 
-// What no filtering alters: the courses from heaviest to lightest and from lightest to heaviest, and all credits.
-pub struct Given {
-    pub down: [u8; 64],
-    pub up: [u8; 64],
-    pub credits: u32,
+// The bounds of a year on their way through rules that alter nothing else.
+pub struct Bounds {
+    pub term: [Term; 16],
+    pub altered: bool,
+    pub rule: u32,
 }
 
 // The sums of each bound over all terms.
@@ -31,69 +28,51 @@ pub struct Totals {
     pub most: Courses,
 }
 
-// A walk on its way: what each other term can still spare, the credits and the count so far, and whether it has stopped.
-pub struct Walk {
-    pub spare: [u8; 16],
-    pub credits: u32,
-    pub count: u32,
-    pub done: bool,
-}
-
-pub fn given_of(y: Year) -> Given
-    requires { ⌜ Sound y ⌝ }
-    ensures { λ r. ⌜ r ≡ givenOf y ⌝ }
+// The bounds of a state.
+pub fn bounds_of(s: State) -> Bounds
+    ensures { λ r. ⌜ r ≡ record { term = s .term; altered = s .altered; rule = s .rule } ⌝ }
 {
-    let w = orders::weights(y);
-    let down = orders::order(&w, y.courses, true);
-    let up = orders::order(&w, y.courses, false);
-    let all = totals::all_credits(y);
-    Given {
-        down: down,
-        up: up,
-        credits: all.0,
+    let t = s.term;
+    Bounds {
+        term: t,
+        altered: s.altered,
+        rule: s.rule,
     }
 }
 
-// One rule over the terms of the year: 1, 2, 4, 5, 6, 7, 8, and 9 for any other number.
-pub fn bounds_rule(s: State, rule: u32, g: Given) -> State
-    requires { ⌜ Sound (s .year) ⌝ }
-    requires { ⌜ s ≡ summed (stepOf s) ⌝ }
-    requires { ⌜ g ≡ givenOf (s .year) ⌝ }
-    ensures { λ r. ⌜ r ≡ summed (overTerms (bounded (ruleAt rule)) (stepOf s)) ⌝ }
-    ensures { λ r. ⌜ Sound (r .year) ⌝ }
-    ensures { λ r. ⌜ r ≡ summed (stepOf r) ⌝ }
-    ensures { λ r. ⌜ g ≡ givenOf (r .year) ⌝ }
+// A state with other bounds.
+pub fn with_bounds(s: State, b: Bounds) -> State
+    ensures { λ r. ⌜ r ≡ withBounds s b ⌝ }
 {
-    let mut y = s.year;
+    let mut z = s;
+    let t = b.term;
+    z.term = t;
+    z.altered = b.altered;
+    z.rule = b.rule;
+    z
+}
+
+// Rules 1 and 2. The weights are those of the year that the state holds, and `all` is their sum.
+pub fn rules_1_2(s: State, weight: &[u32], all: u32) -> State
+    requires { ⌜ Sound (yearIn (now weight) s) ⌝ }
+    requires { ⌜ s ≡ held (stepIn (now weight) s) ⌝ }
+    requires { ⌜ all ≡ allCredits (yearIn (now weight) s) ⌝ }
+    ensures { λ r. ⌜ r ≡ held (overTerms (bounded rule2) (overTerms (bounded rule1) (stepIn (now (weight .entry)) s))) ⌝ }
+{
     let sums = s.sums;
-    let order = walking::order(rule, g);
-    let mut altered = s.altered;
-    let mut found = s.rule;
-    let mut j = 0;
-    while (j < y.terms) & (found == 0) {
-        let t = y.term[j];
-        let u = sums[j];
-        let o = if (rule == 1) | (rule == 4) {
-            near::own(rule, t, u)
-        } else if (rule == 2) | (rule == 5) {
-            let term = y.term;
-            near::shared(rule, t, near::totals(term), g.credits, y.courses as u32)
-        } else {
-            let term = y.term;
-            let course = y.course;
-            let w = walking::begun(spares::spares(term, sums), u);
-            walking::by_walk(rule, t, course, order, y.courses, j, w)
-        };
-        let v = o.term;
-        y.term[j] = v;
-        altered = altered | o.altered;
-        found = o.rule;
-        j += 1;
-    }
-    State {
-        year: y,
-        sums: sums,
-        altered: altered,
-        rule: found,
-    }
+    let b1 = near::own_rule(bounds_of(s), 1, s.terms, sums);
+    let b2 = near::shared_rule(b1, 2, s.terms, all);
+    with_bounds(s, b2)
+}
+
+// Rules 4 and 5.
+pub fn rules_4_5(s: State, weight: &[u32]) -> State
+    requires { ⌜ Sound (yearIn (now weight) s) ⌝ }
+    requires { ⌜ s ≡ held (stepIn (now weight) s) ⌝ }
+    ensures { λ r. ⌜ r ≡ held (overTerms (bounded rule5) (overTerms (bounded rule4) (stepIn (now (weight .entry)) s))) ⌝ }
+{
+    let sums = s.sums;
+    let b4 = near::own_rule(bounds_of(s), 4, s.terms, sums);
+    let b5 = near::shared_rule(b4, 5, s.terms, s.courses as u32);
+    with_bounds(s, b5)
 }

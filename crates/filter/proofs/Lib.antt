@@ -1,3 +1,4 @@
 -- Laws about rounds in a row, and about the state between two rules of a round.
-pub mod RoundLaws
 pub mod Stages
+pub mod RoundLaws
+pub mod Going

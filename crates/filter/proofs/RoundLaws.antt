@@ -7,11 +7,14 @@ use lib.Dec.{eqb}
 use Rattle.theory.specs.Sum.{pick}
 use Rattle.year.specs.Sound.{Sound}
 use Rattle.year.specs.declared.Year.{Year}
+use Rattle.year.proofs.SoundLaws.{sound-to}
 use Rattle.rules.specs.Round.{round}
 use Rattle.rules.proofs.Measure.{measure, measure-most}
 use Rattle.rules.proofs.Steps.{whole-round}
-use Rattle.filter.specs.Filter.{filtered, atRest, roundsFrom}
+use Rattle.filter.specs.Filter.{filtered, atRest, roundsFrom, filterOf}
 use Rattle.filter.specs.declared.Answer.the-variants.{NoPlan}
+use Rattle.filter.specs.declared.Filtered.{Filtered}
+use Rattle.filter.proofs.Stages.{Same, same-self, same-step}
 
 -- what n rounds leave of the paper's 1,025,985
 abbrev pub left : ℕ → ℕ
@@ -39,3 +42,31 @@ module _ (y z : Year) (n : ℕ) (few : n ≤ 1025984) where
 -- an altering round leaves less to narrow
 pub round-falls : (z : Year) → Sound z → round z .altered ≡ true → measure (round z .year) < measure z
 round-falls z s a = let w = rw a at (whole-round z s .falls) in omega arith
+
+-- ---- what is left of the year in the end
+
+module _ (y : Year) (s : Sound y) where
+  pub rounds-same : (k : ℕ) (z : Year) (n : ℕ) → Same y z → Same y (roundsFrom k y z n .year)
+  unfolding roundsFrom
+  rounds-same zero z n a = a
+  rounds-same (suc k) z n a =
+      let after = same-step y z (round z) a (whole-round z (a .sound)) in
+      go (eqb (round z .rule) 0) (round z .altered) after (rounds-same k (round z .year) (n + 1) after)
+    where
+      go : (d b : Bool) → Same y (round z .year) → Same y (roundsFrom k y (round z .year) (n + 1) .year)
+          → let f : Filtered = elim d [
+            | false ↦ filtered (NoPlan (round z .rule) (n + 1)) y
+            | true ↦
+                elim b [
+                  | true ↦ roundsFrom k y (round z .year) (n + 1)
+                  | false ↦ filtered (atRest (round z .year) (n + 1)) (round z .year)
+                ]
+          ] in Same y (f .year)
+      go false b after on = same-self y s
+      go true true after on = on
+      go true false after on = after
+
+  -- a filtering leaves a sound year of as many terms and courses
+  pub filter-same : Same y (filterOf y .year)
+  unfolding filterOf
+  filter-same = rw (sound-to y s) (rounds-same 1025985 y 0 (same-self y s))

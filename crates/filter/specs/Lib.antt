@@ -1,5 +1,6 @@
 -- Filtering, and what its answers say.
 pub mod Filter
+pub mod Halves
 pub mod Numbers
 pub mod Examples
 pub mod Larger

@@ -3,6 +3,7 @@ mod rounds;
 
 use year::Year;
 ghost use mathlib.Core.Path.{_≡_};
+ghost use Rattle.year.specs.Sound.{Sound};
 ghost use Rattle.filter.specs.Filter.{filterOf};
 
 // How a filtering ended: settled or open with the number of rounds, no plan with the rule and the round that found it, or refusal 8.
@@ -18,6 +19,14 @@ pub struct Filtered {
     pub year: Year,
 }
 
+// Filters a year that is known to be sound. Where there is no plan, it hands back the year it was given.
+pub fn filter_sound(y: Year) -> Filtered
+    requires { ⌜ Sound y ⌝ }
+    ensures { λ r. ⌜ r ≡ filterOf y ⌝ }
+{
+    rounds::run(y)
+}
+
 // Filters a year. Refused, or where there is no plan, it hands back the year it was given.
 pub fn filter(y: Year) -> Filtered
     ensures { λ r. ⌜ r ≡ filterOf y ⌝ }
@@ -28,5 +37,5 @@ pub fn filter(y: Year) -> Filtered
             year: y,
         };
     }
-    rounds::run(y)
+    filter_sound(y)
 }

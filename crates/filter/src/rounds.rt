@@ -1,60 +1,125 @@
-// One round, and rounds in a row.
+// One round in two halves, and rounds in a row.
 use crate::Answer;
 use crate::Filtered;
-use bounds::Given;
 use rules::State;
+use totals::parts;
+use walks::Orders;
+use year::Columns;
 use year::Year;
 ghost use mathlib.Core.Path.{_≡_};
-ghost use Prim.Native.Nat.{_≤_};
+ghost use Prim.Native.Nat.{ℕ, _≤_, _<_};
+ghost use lib.ListN.{length, getD};
+ghost use Rattle.year.specs.Parts.{columnsOf};
+ghost use Rattle.year.specs.Sums.{allCredits};
 ghost use Rattle.year.specs.Sound.{Sound};
-ghost use Rattle.bounds.specs.Given.{givenOf};
-ghost use Rattle.rules.specs.Step.{live, summed};
-ghost use Rattle.rules.specs.Round.{round};
-ghost use Rattle.filter.specs.Filter.{atRest, roundsFrom};
+ghost use Rattle.walks.specs.Orders.{ordersIn, ordersOf};
+ghost use Rattle.rules.specs.Step.{live, held, yearIn, stepIn};
+ghost use Rattle.filter.specs.declared.Answer.the-variants.{NoPlan};
+ghost use Rattle.filter.specs.Halves.{firstHalf, secondHalf};
+ghost use Rattle.filter.specs.Filter.{filtered, atRest, roundsFrom};
 
-// A year about to go through a round.
-fn start(y: Year) -> State
+// A year about to go through a round, but for its weights.
+fn start(y: Year, q: Columns) -> State
     requires { ⌜ Sound y ⌝ }
-    ensures { λ r. ⌜ r ≡ summed (live y) ⌝ }
+    requires { ⌜ q ≡ columnsOf y ⌝ }
+    ensures { λ r. ⌜ r ≡ held (live y) ⌝ }
 {
-    let s = year::totals::sums_of(y);
+    let term = y.term;
+    let weight = q.weight;
+    let list = q.list;
+    let sums = totals::sums_over(&weight, &list, y.terms, y.courses);
     State {
-        year: y,
-        sums: s,
+        terms: y.terms,
+        courses: y.courses,
+        term: term,
+        list: list,
+        sums: sums,
         altered: false,
         rule: 0,
     }
 }
 
-// Rules 1 to 11 in order.
-fn one_round(s: State, g: Given) -> State
-    requires { ⌜ Sound (s .year) ⌝ }
-    requires { ⌜ s ≡ summed (live (s .year)) ⌝ }
-    requires { ⌜ g ≡ givenOf (s .year) ⌝ }
-    ensures { λ r. ⌜ r ≡ summed (round (s .year)) ⌝ }
+// Rules 1 to 5 in order, up to one that finds no plan.
+fn first_half(s: State, weight: &[u32], all: u32) -> State
+    requires { ⌜ length (now weight) ≡ 64 ⌝ }
+    requires { ⌜ Sound (yearIn (now weight) s) ⌝ }
+    requires { ⌜ s ≡ held (live (yearIn (now weight) s)) ⌝ }
+    requires { ⌜ all ≡ allCredits (yearIn (now weight) s) ⌝ }
+    ensures { λ r. ⌜ r ≡ held (firstHalf (yearIn (now (weight .entry)) s)) ⌝ }
 {
-    let r1 = bounds::bounds_rule(s, 1, g);
-    let r2 = bounds::bounds_rule(r1, 2, g);
-    let r3 = lists::rule_3(r2);
-    let r4 = bounds::bounds_rule(r3, 4, g);
-    let r5 = bounds::bounds_rule(r4, 5, g);
-    let r6 = bounds::bounds_rule(r5, 6, g);
-    let r7 = bounds::bounds_rule(r6, 7, g);
-    let r8 = bounds::bounds_rule(r7, 8, g);
-    let r9 = bounds::bounds_rule(r8, 9, g);
-    let r10 = lists::rule_10(r9);
-    packing::rule_11(r10)
+    let r2 = bounds::rules_1_2(s, weight, all);
+    if r2.rule != 0 {
+        return r2;
+    }
+    let r3 = lists::rule_3(r2, weight);
+    bounds::rules_4_5(r3, weight)
 }
 
-// The answer of a year at rest after n rounds.
-fn at_rest(y: Year, n: u32) -> Answer
-    requires { ⌜ Sound y ⌝ }
-    ensures { λ r. ⌜ r ≡ atRest y n ⌝ }
+// Rules 6 to 11 in order, up to one that finds no plan.
+fn second_half(s: State, weight: &[u32], o: Orders) -> State
+    requires { ⌜ length (now weight) ≡ 64 ⌝ }
+    requires { ⌜ Sound (yearIn (now weight) s) ⌝ }
+    requires { ⌜ s ≡ held (stepIn (now weight) s) ⌝ }
+    requires { ⌜ o ≡ ordersOf (yearIn (now weight) s) ⌝ }
+    ensures { λ r. ⌜ r ≡ held (secondHalf (stepIn (now (weight .entry)) s)) ⌝ }
 {
-    if year::totals::all_placed(y) {
-        Answer::Settled(n)
-    } else {
-        Answer::Open(n)
+    let r9 = walks::rules_6_to_9(s, weight, o);
+    if r9.rule != 0 {
+        return r9;
+    }
+    let r10 = lists::rule_10(r9, weight);
+    packing::rule_11(r10, weight)
+}
+
+// The orders of the first n courses, computed in the first round and kept from then on. A year that the first half of
+// its first round ends needs none.
+fn orders_by(o: Orders, round: u32, weight: &[u32], n: usize) -> Orders
+    requires { ⌜ (n ≤ length (now weight)) × (n ≤ 64) ⌝ }
+    requires { ⌜ ((i : ℕ) → i < n → getD (now weight) i 0 ≤ 1000) ⌝ }
+    requires { ⌜ ((round ≡ 1 → ⊥) → o ≡ ordersIn (now weight) n) ⌝ }
+    ensures { λ r. ⌜ r ≡ ordersIn (now (weight .entry)) n ⌝ }
+{
+    if round == 1 {
+        return walks::orders_of(weight, n);
+    }
+    o
+}
+
+// The answer where a rule found no plan in round n, beside the year that was given.
+fn no_plan(y: Year, rule: u32, n: u32) -> Filtered
+    ensures { λ r. ⌜ r ≡ filtered (NoPlan rule n) y ⌝ }
+{
+    Filtered {
+        answer: Answer::NoPlan(rule, n),
+        year: y,
+    }
+}
+
+// The answer and the year of a state at rest after n rounds.
+fn rested(s: State, weight: &[u32], n: u32) -> Filtered
+    requires { ⌜ length (now weight) ≡ 64 ⌝ }
+    requires { ⌜ Sound (yearIn (now weight) s) ⌝ }
+    requires { ⌜ s ≡ held (stepIn (now weight) s) ⌝ }
+    ensures { λ r. ⌜ r ≡ filtered (atRest (yearIn (now (weight .entry)) s) n) (yearIn (now (weight .entry)) s) ⌝ }
+{
+    let term = s.term;
+    let list = s.list;
+    let course = parts::together(weight, &list, s.courses);
+    let z = Year {
+        terms: s.terms,
+        courses: s.courses,
+        term: term,
+        course: course,
+    };
+    if totals::all_placed(z) {
+        return Filtered {
+            answer: Answer::Settled(n),
+            year: z,
+        };
+    }
+    Filtered {
+        answer: Answer::Open(n),
+        year: z,
     }
 }
 
@@ -63,22 +128,28 @@ pub fn run(y: Year) -> Filtered
     requires { ⌜ Sound y ⌝ }
     ensures { λ r. ⌜ r ≡ roundsFrom 1025985 y y 0 ⌝ }
 {
-    let g = bounds::given_of(y);
-    let mut s = start(y);
+    let q = parts::apart(y);
+    let weight = q.weight;
+    let all = totals::all_credits(y);
+    let mut o = Orders {
+        down: [0u8; 64],
+        up: [0u8; 64],
+    };
+    let mut s = start(y, q);
     let mut n: u32 = 0;
     loop {
-        s = one_round(s, g);
+        s = first_half(s, &weight, all.0);
         n += 1;
         if s.rule != 0 {
-            return Filtered {
-                answer: Answer::NoPlan(s.rule, n),
-                year: y,
-            };
+            return no_plan(y, s.rule, n);
         }
-        let z = s.year;
+        o = orders_by(o, n, &weight, y.courses);
+        s = second_half(s, &weight, o);
+        if s.rule != 0 {
+            return no_plan(y, s.rule, n);
+        }
         if !s.altered {
-            let a = at_rest(z, n);
-            return Filtered { answer: a, year: z };
+            return rested(s, &weight, n);
         }
         s.altered = false;
     }

@@ -1,15 +1,19 @@
 -- The courses of a term, one after the other: what the steps leave alone, and what the code carries along.
-use Prim.Native.Nat.{ℕ, zero, suc, _+_, _≤_, _<_}
+use Prim.Native.Nat.{ℕ, zero, suc, _+_, _-_, _^_, _≤_, _<_}
 use mathlib.Core.Bool.{Bool, true, false, or-true, or-false, true≢false}
 use mathlib.Core.Path.{_≡_, refl, sym, ap, ap₂, _∙_, subst}
 use native.Mathlib.Omega.{arith}
-use Rattle.year.specs.Year.{termAt, courseAt, weight, isOpen, placed, struck}
+use lib.ListN.{length, set}
+use Rattle.theory.specs.Bits.{has-le}
+use Rattle.theory.specs.Tab.{set-tab}
+use Rattle.year.specs.Year.{termAt, courseAt, weight, list, isOpen, withList, placed, struck}
 use Rattle.year.specs.Sums.{fixedCredits, possibleCredits}
+use Rattle.year.specs.Parts.{listsOf}
 use Rattle.year.specs.Sound.{Sound}
 use Rattle.year.specs.declared.Course.{Course}
 use Rattle.year.specs.declared.Term.{Term}
 use Rattle.year.specs.declared.Year.{Year}
-use Rattle.year.proofs.DoorLaws.{course-other}
+use Rattle.year.proofs.DoorLaws.{course-same, course-other}
 use Rattle.year.proofs.SumLaws.{possible-le, all-credits-le}
 use Rattle.rules.specs.Step.{live, judged, next, overTo, over-more}
 use Rattle.rules.specs.Lists.{verdict3, rule3Course, verdict10, rule10Course}
@@ -22,25 +26,18 @@ use Rattle.lists.specs.Judge.{kept, keptOf, verdictOf, judgeCourse}
 use Rattle.lists.specs.declared.Judge.{Judge}
 use Rattle.lists.specs.declared.Judge.the-variants.{Rests, Credits, Counts, Fails}
 use Rattle.lists.specs.declared.Kept.{Kept}
+use Rattle.lists.proofs.SumsAfter.{is-listed as lists-it, weight-le, struck-fixed, struck-possible, placed-fixed, placed-possible}
 
--- ---- a year with its p and P
+-- ---- a year's lists with its p and P
 
-pub kept-is : (k : Kept) (y : Year) (a : Bool) (j : ℕ) → k .year ≡ y → k .fixed ≡ fixedCredits y j → k .possible ≡ possibleCredits y j → k .altered ≡ a → k ≡ kept y a j
-kept-is k y a j p q r t = λ n. record { year = p n; fixed = q n; possible = r n; altered = t n }
+pub kept-is : (k : Kept) (y : Year) (a : Bool) (j : ℕ) → k .list ≡ listsOf y → k .fixed ≡ fixedCredits y j → k .possible ≡ possibleCredits y j → k .altered ≡ a → k ≡ kept y a j
+kept-is k y a j p q r t = λ n. record { list = p n; fixed = q n; possible = r n; altered = t n }
 
-module _ (k : Kept) (y : Year) (a : Bool) (j : ℕ) (e : k ≡ kept y a j) where
-  pub year-is : k .year ≡ y
-  year-is = ap (λ (z : Kept). z .year) e
-
-  pub fixed-is : k .fixed ≡ fixedCredits y j
-  fixed-is = ap (λ (z : Kept). z .fixed) e
-
-  pub possible-is : k .possible ≡ possibleCredits y j
-  possible-is = ap (λ (z : Kept). z .possible) e
-
-  -- the same said of the year that it holds
-  pub kept-self : k ≡ kept (k .year) (k .altered) j
-  kept-self = e ∙ ap₂ (λ z b. kept z b j) (sym year-is) (sym (ap (λ (z : Kept). z .altered) e))
+-- another list of course i
+lists-after : (y : Year) (i l : ℕ) → i < length (y .course) → set (listsOf y) i l ≡ listsOf (withList y i l)
+lists-after y i l h =
+    ap (set (listsOf y) i) (sym (ap (λ (c : Course). c .list) (course-same y i l h)))
+    ∙ set-tab 64 (list y) (list (withList y i l)) 0 i (λ k m ne. ap (λ (c : Course). c .list) (sym (course-other y i l k ne)))
 
 -- with one course more, p stays within its size
 pub small : (y : Year) (i j : ℕ) → Sound y → i < y .courses → fixedCredits y j + weight y i ≤ 65000
@@ -120,28 +117,24 @@ onward w j y (suc n) =
 abbrev pub keptTo : Judge → Year → ℕ → ℕ → Kept
 keptTo w y j n = keptOf (overTo (judgeCourse w j) (live y) n) j
 
--- the verdict on course i as the code finds it
-abbrev pub verdictOn : Judge → Year → ℕ → ℕ → Kept → Verdict
-verdictOn w y j i k = verdictOf w (courseAt y i) (termAt y j) (k .fixed) (k .possible) j
+-- c is course i, k what is carried when it is come to, and p the list of term j alone
+pub record Turn (w : Judge) (y : Year) (j i : ℕ) (k : Kept) (c : Course) : Type 0 where
+  pub p-small : k .fixed + c .weight .0 ≤ 65000
+  pub stays : verdictOf w c (termAt y j) (k .fixed) (k .possible) j ≡ Stays → k ≡ keptTo w y j (i + 1)
+  pub is-listed : verdictOf w c (termAt y j) (k .fixed) (k .possible) j ≡ Struck → 2 ^ j ≤ c .list
+  pub is-possible : verdictOf w c (termAt y j) (k .fixed) (k .possible) j ≡ Struck → c .weight .0 ≤ k .possible
+  pub strikes : verdictOf w c (termAt y j) (k .fixed) (k .possible) j ≡ Struck → (p : ℕ) → p ≡ 2 ^ j
+      → record { list = set (k .list) i (c .list - p); fixed = k .fixed; possible = k .possible - c .weight .0; altered = true } ≡ keptTo w y j (i + 1)
+  pub fixes : verdictOf w c (termAt y j) (k .fixed) (k .possible) j ≡ Fixed → (p : ℕ) → p ≡ 2 ^ j
+      → record { list = set (k .list) i p; fixed = k .fixed + c .weight .0; possible = k .possible; altered = true } ≡ keptTo w y j (i + 1)
 
--- what a door asks of the year that it is opened on
-abbrev pub Ready : Kept → ℕ → ℕ → Type 0
-Ready k i j =
-    Sound (k .year)
-    × (((i < k .year .courses) × (j < k .year .terms)) × ((isOpen (courseAt (k .year) i) j ≡ true) × (k ≡ kept (k .year) (k .altered) j)))
-
-pub record Turn (w : Judge) (y : Year) (j i : ℕ) (k : Kept) : Type 0 where
-  pub p-small : k .fixed + weight y i ≤ 65000
-  pub stays : verdictOn w y j i k ≡ Stays → k ≡ keptTo w y j (i + 1)
-  pub strikes : verdictOn w y j i k ≡ Struck → Ready k i j × (kept (struck (k .year) i j) true j ≡ keptTo w y j (i + 1))
-  pub fixes : verdictOn w y j i k ≡ Fixed → Ready k i j × (kept (placed (k .year) i j) true j ≡ keptTo w y j (i + 1))
-
-module _ (w : Judge) (y : Year) (j i : ℕ) (k : Kept) (sound : Sound y) (j-in : j < y .terms) (i-in : i < y .courses) (inv : k ≡ keptTo w y j i) where
+module _ (w : Judge) (y : Year) (j i : ℕ) (k : Kept) (c : Course) (sound : Sound y) (j-in : j < y .terms) (i-in : i < y .courses) (inv : k ≡ keptTo w y j i)
+    (is : c ≡ courseAt y i) where
   abbrev s : Step
   s = overTo (judgeCourse w j) (live y) i
 
-  year : k .year ≡ s .year
-  year = year-is k (s .year) (s .altered) j inv
+  abbrev v : Verdict
+  v = verdictOf w c (termAt y j) (k .fixed) (k .possible) j
 
   o : Onward y i s
   o = onward w j y i
@@ -149,33 +142,56 @@ module _ (w : Judge) (y : Year) (j i : ℕ) (k : Kept) (sound : Sound y) (j-in :
   whole : Whole y s
   whole = whole-over (judgeCourse w j) (y .courses) y (live y) (lawful w (y .terms) (y .courses) j j-in) (whole-rest y 0 sound) i (omega arith)
 
+  inside : i < s .year .courses
+  inside = omega (arith, whole .courses-same)
+
+  -- the course was not altered yet
+  course : c ≡ courseAt (s .year) i
+  course = is ∙ sym (o .course-same i (omega arith))
+
+  fixed-is : k .fixed ≡ fixedCredits (s .year) j
+  fixed-is = ap (λ (z : Kept). z .fixed) inv
+
+  possible-is : k .possible ≡ possibleCredits (s .year) j
+  possible-is = ap (λ (z : Kept). z .possible) inv
+
   -- the verdict by the numbers at hand is that by the sums read anew
-  same : verdictOn w y j i k ≡ verdictAt w j (s .year) i
-  same = rw (fixed-is k (s .year) (s .altered) j inv, possible-is k (s .year) (s .altered) j inv, o .course-same i (omega arith), o .term-same)
+  same : v ≡ verdictAt w j (s .year) i
+  same = rw (fixed-is, possible-is, course, o .term-same)
 
-  after : (v : Verdict) → verdictOn w y j i k ≡ v → keptTo w y j (i + 1) ≡ keptOf (joined s (judged (s .year) i j v)) j
-  after v e = ap (λ t. keptOf t j) (over-more (judgeCourse w j) (live y) i ∙ turn w j s i v (o .goes-on) (sym same ∙ e))
+  after : (u : Verdict) → v ≡ u → keptOf (joined s (judged (s .year) i j u)) j ≡ keptTo w y j (i + 1)
+  after u e = ap (λ t. keptOf t j) (sym (over-more (judgeCourse w j) (live y) i ∙ turn w j s i u (o .goes-on) (sym same ∙ e)))
 
-  ready : (verdictOn w y j i k ≡ Stays → ⊥) → Ready k i j
-  ready d =
-      let course : courseAt (k .year) i ≡ courseAt y i = rw year (o .course-same i (omega arith)) in (
-        rw year (whole .sound),
-        (
-          (rw year (omega (arith, whole .courses-same)), rw year (omega (arith, whole .terms-same))),
-          (rw course (verdict-open w (courseAt y i) (termAt y j) (k .fixed) (k .possible) j d), kept-self k (s .year) (s .altered) j inv),
-        ),
-      )
+  is-open : (v ≡ Stays → ⊥) → isOpen (courseAt (s .year) i) j ≡ true
+  is-open d = rw course at (verdict-open w c (termAt y j) (k .fixed) (k .possible) j d)
 
-  pub turn-at : Turn w y j i k
+  list-is : (l : ℕ) → set (k .list) i l ≡ listsOf (withList (s .year) i l)
+  list-is l = ap (λ (z : Kept). set (z .list) i l) inv ∙ lists-after (s .year) i l (omega (arith, whole .sound))
+
+  struck-open : v ≡ Struck → isOpen (courseAt (s .year) i) j ≡ true
+  struck-open e = is-open (λ q. let z : _≡_ {A = ℕ} 0 1 = cc in omega arith)
+
+  fixed-open : v ≡ Fixed → isOpen (courseAt (s .year) i) j ≡ true
+  fixed-open e = is-open (λ q. let z : _≡_ {A = ℕ} 0 1 = cc in omega arith)
+
+  pub turn-at : Turn w y j i k c
   turn-at = record {
-    p-small = omega (arith, fixed-is k (s .year) (s .altered) j inv, whole .weight-same i, small (s .year) i j (whole .sound) (omega (arith, whole .courses-same)));
-    stays = λ e. inv ∙ ap (λ b. kept (s .year) b j) (sym (or-false (s .altered))) ∙ sym (after Stays e);
-    strikes = λ e. (
-      ready (λ q. let z : _≡_ {A = ℕ} 0 1 = cc in omega arith),
-      ap₂ (λ z b. kept (struck z i j) b j) year (sym (or-true (s .altered))) ∙ sym (after Struck e),
-    );
-    fixes = λ e. (
-      ready (λ q. let z : _≡_ {A = ℕ} 0 1 = cc in omega arith),
-      ap₂ (λ z b. kept (placed z i j) b j) year (sym (or-true (s .altered))) ∙ sym (after Fixed e),
-    );
+    p-small = rw (course, fixed-is) (small (s .year) i j (whole .sound) inside);
+    stays = λ e. inv ∙ ap (λ b. kept (s .year) b j) (sym (or-false (s .altered))) ∙ after Stays e;
+    is-listed = λ e. rw course (has-le (list (s .year) i) j (lists-it (s .year) i j (whole .sound) inside (struck-open e)));
+    is-possible = λ e. rw (course, possible-is) (weight-le (s .year) i j (whole .sound) inside (struck-open e));
+    strikes = λ e p q.
+        kept-is _ (struck (s .year) i j) _ j
+        (ap₂ (λ (x : Course) l. set (k .list) i (x .list - l)) course q ∙ list-is (list (s .year) i - 2 ^ j))
+        (fixed-is ∙ sym (struck-fixed (s .year) i j (whole .sound) inside (struck-open e)))
+        (ap₂ (λ p (x : Course). p - x .weight .0) possible-is course ∙ sym (struck-possible (s .year) i j (whole .sound) inside (struck-open e)))
+        (sym (or-true (s .altered)))
+        ∙ after Struck e;
+    fixes = λ e p q.
+        kept-is _ (placed (s .year) i j) _ j
+        (ap (set (k .list) i) q ∙ list-is (2 ^ j))
+        (ap₂ (λ p (x : Course). p + x .weight .0) fixed-is course ∙ sym (placed-fixed (s .year) i j (whole .sound) inside (fixed-open e)))
+        (possible-is ∙ sym (placed-possible (s .year) i j (whole .sound) inside (fixed-open e)))
+        (sym (or-true (s .altered)))
+        ∙ after Fixed e;
   }

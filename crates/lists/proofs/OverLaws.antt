@@ -7,28 +7,29 @@ use native.Mathlib.Nat.{le-refl}
 use native.Mathlib.Omega.{arith}
 use lib.Dec.{eqb, ltb}
 use lib.ListN.{getD}
-use borrow.Author.Tests.{ltb-false, ne-eqb}
+use borrow.Author.Tests.{ltb-false}
 use Rattle.theory.specs.Choice.{choose, choose-any}
 use Rattle.theory.specs.Tab.{tab, getD-tab}
-use Rattle.year.specs.Year.{termAt, lowCredits}
+use Rattle.year.specs.Year.{zeroTerm, termAt, weight, lowCredits}
 use Rattle.year.specs.Sums.{openWeight, fixedCredits, fixedCount, openCount, sumsAt, noSums}
 use Rattle.year.specs.Sound.{Sound}
 use Rattle.year.specs.declared.Sums.{Sums}
 use Rattle.year.specs.declared.Year.{Year}
 use Rattle.year.proofs.SumLaws.{sums-read, possible-le, all-credits-le, counts-le}
-use Rattle.rules.specs.Step.{step, live, next, overTo, over-more, overTerms, summed, stepOf}
+use Rattle.rules.specs.Step.{step, live, next, overTo, over-more, overTerms, held, yearIn, stepIn}
 use Rattle.rules.specs.Lists.{rule3, rule10}
 use Rattle.rules.specs.declared.Step.{Step}
 use Rattle.rules.specs.declared.State.{State}
 use Rattle.rules.proofs.Whole.{Whole, whole-rest, whole-over, joined, over-dead}
 use Rattle.rules.proofs.Steps.{whole-3, whole-10}
+use Rattle.rules.proofs.Holding.{year-held, step-held, sound-held, held-self, sums-held}
 use Rattle.lists.specs.Judge.{judge3, judge10, judgeTerm}
 use Rattle.lists.specs.Tops.{topAt}
 use Rattle.lists.specs.declared.Judge.{Judge}
 use Rattle.lists.specs.declared.Judge.the-variants.{Rests, Credits, Counts, Fails}
 use Rattle.lists.proofs.CourseLaws.{onward}
 use Rattle.lists.proofs.TopLaws.{top-most, top-bounds, open-less}
-use Rattle.lists.proofs.TermLaws.{step-is, rests-is, credits-is, judged-3, judged-10}
+use Rattle.lists.proofs.TermLaws.{step-is, weights-stay, rests-is, credits-is, judged-3, judged-10}
 
 -- ---- a rule on lists
 
@@ -80,45 +81,60 @@ terms-over f l y (suc n) =
 -- ---- a turn of the code's loop: z is the state at term j, from s on
 
 -- w is what the term is judged by
-pub record TermTurn (rule : Year → ℕ → Step) (s z : State) (j : ℕ) (w : Judge) : Type 0 where
-  pub ready : Sound (z .year) × ((j < z .year .terms) × ((z .rule ≡ 0) × (z ≡ summed (stepOf z))))
-  pub rests : w ≡ Rests → z ≡ summed (overTo rule (stepOf s) (j + 1))
-  pub goes-on : summed (next (judgeTerm w) (stepOf z) j) ≡ summed (overTo rule (stepOf s) (j + 1))
+pub record TermTurn (rule : Year → ℕ → Step) (ws : List ℕ) (s z : State) (j : ℕ) (w : Judge) : Type 0 where
+  pub ready : (j < z .terms) × (Sound (yearIn ws z)) × (z ≡ held (stepIn ws z)) × (z .rule ≡ 0)
+  pub rests : w ≡ Rests → z ≡ held (overTo rule (stepIn ws s) (j + 1))
+  pub goes-on : held (next (judgeTerm w) (stepIn ws z) j) ≡ held (overTo rule (stepIn ws s) (j + 1))
 
-module _ (rule : Year → ℕ → Step) (l : OnLists rule) (s : State) (sound : Sound (s .year)) (alive : s .rule ≡ 0)
-    (j : ℕ) (h : j < s .year .terms) (z : State) (inv : z ≡ summed (overTo rule (stepOf s) j)) where
+module _ (rule : Year → ℕ → Step) (l : OnLists rule) (ws : List ℕ) (s : State) (sound : Sound (yearIn ws s)) (alive : s .rule ≡ 0)
+    (j : ℕ) (h : j < s .terms) (z : State) (inv : z ≡ held (overTo rule (stepIn ws s) j)) where
+  abbrev p : Step
+  p = overTo rule (stepIn ws s) j
+
   abbrev t : Step
-  t = overTo rule (live (s .year)) j
+  t = overTo rule (live (yearIn ws s)) j
 
-  whole-at : Whole (s .year) t
-  whole-at = whole-over rule (s .year .terms) (s .year) (live (s .year)) (λ y k a b c m. l .whole y k a (omega arith)) (whole-rest (s .year) 0 sound) j (omega arith)
+  whole-at : Whole (yearIn ws s) t
+  whole-at = whole-over rule (s .terms) (yearIn ws s) (live (yearIn ws s)) (λ y k a b c m. l .whole y k a (omega arith)) (whole-rest (yearIn ws s) 0 sound) j (omega arith)
 
-  year-at : z .year ≡ t .year
-  year-at = ap (λ (x : State). x .year) inv ∙ ap (λ (x : Step). x .year) (over-joined rule (stepOf s) alive j)
+  year-same : p .year ≡ t .year
+  year-same = ap (λ (x : Step). x .year) (over-joined rule (stepIn ws s) alive j)
 
-  term-at : termAt (s .year) j ≡ termAt (z .year) j
-  term-at = rw (year-at, terms-over rule l (s .year) j)
+  sound-same : Sound (p .year)
+  sound-same = rw year-same (whole-at .sound)
 
-  summed-at : z ≡ summed (stepOf z)
-  summed-at = inv ∙ ap summed (sym (ap stepOf inv))
+  weights-same : (i : ℕ) → i < 64 → getD ws i 0 ≡ weight (p .year) i
+  weights-same i m = rw year-same (weights-stay ws s t whole-at i m)
 
-  sound-at : Sound (z .year)
-  sound-at = rw year-at (whole-at .sound)
+  step-at : stepIn ws z ≡ p
+  step-at = step-held ws p sound-same weights-same z inv
 
-  sums-at : getD (z .sums) j noSums ≡ sumsAt (z .year) j
-  sums-at = sums-read (z .year) (z .sums) (ap (λ (x : State). x .sums) summed-at) j (omega (arith, sound))
+  year-at : yearIn ws z ≡ t .year
+  year-at = year-held ws p sound-same weights-same z inv ∙ year-same
 
-  same : summed (next rule (stepOf z) j) ≡ summed (overTo rule (stepOf s) (j + 1))
-  same = ap (λ x. summed (next rule x j)) (ap stepOf inv) ∙ ap summed (sym (over-more rule (stepOf s) j))
+  held-at : z ≡ held (stepIn ws z)
+  held-at = held-self ws p sound-same weights-same z inv
 
-  turn-at : z .rule ≡ 0 → (w : Judge) → rule (z .year) j ≡ judgeTerm w (z .year) j → TermTurn rule s z j w
+  sound-at : Sound (yearIn ws z)
+  sound-at = sound-held ws p sound-same weights-same z inv
+
+  term-at : termAt (yearIn ws s) j ≡ termAt (yearIn ws z) j
+  term-at = sym (ap (λ (y : Year). termAt y j) year-at ∙ ap (λ ts. getD ts j zeroTerm) (terms-over rule l (yearIn ws s) j))
+
+  sums-at : getD (z .sums) j noSums ≡ sumsAt (yearIn ws z) j
+  sums-at = sums-read (yearIn ws z) (z .sums) (sums-held ws z held-at) j (omega (arith, sound))
+
+  same : held (next rule (stepIn ws z) j) ≡ held (overTo rule (stepIn ws s) (j + 1))
+  same = ap (λ x. held (next rule x j)) step-at ∙ ap held (sym (over-more rule (stepIn ws s) j))
+
+  turn-at : z .rule ≡ 0 → (w : Judge) → rule (yearIn ws z) j ≡ judgeTerm w (yearIn ws z) j → TermTurn rule ws s z j w
   turn-at going w is = record {
-    ready = (sound-at, (rw year-at (omega (arith, whole-at .terms-same)), (going, summed-at)));
+    ready = (omega (arith, ap (λ (y : Year). y .terms) year-at, whole-at .terms-same), sound-at, held-at, going);
     rests = λ q.
-        let still : rule (z .year) j ≡ live (z .year) = is ∙ ap (λ v. judgeTerm v (z .year) j) q ∙ rests-is (z .year) j in
-        let quiet : stepOf z ≡ next rule (stepOf z) j = rw (going, still) (step-is refl (sym (or-false (z .altered))) refl) in
-        summed-at ∙ ap summed quiet ∙ same;
-    goes-on = ap (λ (x : Step). summed (choose (eqb (z .rule) 0) (step (x .year) (z .altered || x .altered) (x .rule)) (stepOf z))) (sym is) ∙ same;
+        let still : rule (yearIn ws z) j ≡ live (yearIn ws z) = is ∙ ap (λ v. judgeTerm v (yearIn ws z) j) q ∙ rests-is (yearIn ws z) j in
+        let quiet : stepIn ws z ≡ next rule (stepIn ws z) j = rw (going, still) (step-is refl (sym (or-false (z .altered))) refl) in
+        held-at ∙ ap held quiet ∙ same;
+    goes-on = ap (λ (x : Step). held (choose (eqb (z .rule) 0) (step (x .year) (z .altered || x .altered) (x .rule)) (stepIn ws z))) (sym is) ∙ same;
   }
 
 -- ---- rule 3
@@ -133,57 +149,52 @@ alive-3 s z (suc n) =
     (ap (λ (x : Step). x .rule) (credits-is (t .year) n) ∙ onward Credits n (t .year) (t .year .courses) .goes-on)
     (alive-3 s z n)
 
-module _ (s : State) (sound : Sound (s .year)) (alive : s .rule ≡ 0) (j : ℕ) (h : j < s .year .terms) (z : State) (inv : z ≡ summed (overTo rule3 (stepOf s) j))
-    (top : List ℕ) (e : top ≡ tab 16 (topAt (s .year))) where
-  top-at : getD top j 0 ≡ topAt (s .year) j
-  top-at = rw e (getD-tab 16 (topAt (s .year)) 0 j (omega (arith, sound)))
+module _ (ws : List ℕ) (s : State) (sound : Sound (yearIn ws s)) (alive : s .rule ≡ 0) (j : ℕ) (h : j < s .terms) (z : State) (inv : z ≡ held (overTo rule3 (stepIn ws s) j))
+    (top : List ℕ) (e : top ≡ tab 16 (topAt (yearIn ws s))) where
+  top-at : getD top j 0 ≡ topAt (yearIn ws s) j
+  top-at = rw e (getD-tab 16 (topAt (yearIn ws s)) 0 j (omega (arith, sound)))
 
-  pub fits-3 : (getD (z .sums) j noSums .fixed .0 + getD top j 0 < 100000) × (lowCredits (s .year) j + getD top j 0 < 100000)
+  pub fits-3 : (getD (z .sums) j noSums .fixed .0 + getD top j 0 < 100000) × (lowCredits (yearIn ws s) j + getD top j 0 < 100000)
   unfolding sumsAt fixedCredits
   fits-3 =
-      let y = z .year in
-      let a = sound-at rule3 lists-3 s sound alive j h z inv in
-      let p : getD (z .sums) j noSums .fixed .0 ≡ fixedCredits y j = ap (λ (u : Sums). u .fixed .0) (sums-at rule3 lists-3 s sound alive j h z inv) in
-      let top-small = top-most (s .year) (s .year .courses) j sound (le-refl (s .year .courses)) in
+      let y = yearIn ws z in
+      let a = sound-at rule3 lists-3 ws s sound alive j h z inv in
+      let p : getD (z .sums) j noSums .fixed .0 ≡ fixedCredits y j = ap (λ (u : Sums). u .fixed .0) (sums-at rule3 lists-3 ws s sound alive j h z inv) in
+      let top-small = top-most (yearIn ws s) (s .courses) j sound (le-refl (s .courses)) in
       (omega (arith, top-at, possible-le y j, all-credits-le y a, a .courses-most), omega (arith, top-at, sound .term-sound j h))
 
-  pub turn-3 : (w : Judge) → w ≡ judge3 (termAt (s .year) j) (getD (z .sums) j noSums) (getD top j 0) → TermTurn rule3 s z j w
+  pub turn-3 : (w : Judge) → w ≡ judge3 (termAt (yearIn ws s) j) (getD (z .sums) j noSums) (getD top j 0) → TermTurn rule3 ws s z j w
   turn-3 w q =
-      let v = whole-at rule3 lists-3 s sound alive j h z inv in
-      let y = year-at rule3 lists-3 s sound alive j h z inv in
-      let bound : (i : ℕ) → i < z .year .courses → openWeight (z .year) j i ≤ getD top j 0 = λ i m.
-      let n : i < s .year .courses = omega (arith, v .courses-same, ap (λ (x : Year). x .courses) y) in
-      rw y (omega (arith, top-at, open-less (s .year) _ v i j n, top-bounds (s .year) (s .year .courses) j i n)) in
-      let read : w ≡ judge3 (termAt (z .year) j) (sumsAt (z .year) j) (getD top j 0) =
-      q ∙ ap₂ (λ t u. judge3 t u (getD top j 0)) (term-at rule3 lists-3 s sound alive j h z inv) (sums-at rule3 lists-3 s sound alive j h z inv) in
-      turn-at rule3 lists-3 s sound alive j h z inv (ap (λ (x : State). x .rule) inv ∙ alive-3 (stepOf s) alive j) w
-      (judged-3 (z .year) j (getD top j 0) bound ∙ ap (λ x. judgeTerm x (z .year) j) (sym read))
+      let v = whole-at rule3 lists-3 ws s sound alive j h z inv in
+      let y = year-at rule3 lists-3 ws s sound alive j h z inv in
+      let bound : (i : ℕ) → i < z .courses → openWeight (yearIn ws z) j i ≤ getD top j 0 = λ i m.
+      let n : i < s .courses = omega (arith, v .courses-same, ap (λ (x : Year). x .courses) y) in
+      omega (arith, ap (λ (x : Year). openWeight x j i) y, top-at, open-less (yearIn ws s) _ v i j n, top-bounds (yearIn ws s) (s .courses) j i n) in
+      let read : w ≡ judge3 (termAt (yearIn ws z) j) (sumsAt (yearIn ws z) j) (getD top j 0) =
+      q ∙ ap₂ (λ t u. judge3 t u (getD top j 0)) (term-at rule3 lists-3 ws s sound alive j h z inv) (sums-at rule3 lists-3 ws s sound alive j h z inv) in
+      turn-at rule3 lists-3 ws s sound alive j h z inv (ap (λ (x : State). x .rule) inv ∙ alive-3 (stepIn ws s) alive j) w
+      (judged-3 (yearIn ws z) j (getD top j 0) bound ∙ ap (λ x. judgeTerm x (yearIn ws z) j) (sym read))
 
 -- ---- rule 10
 
-module _ (s : State) (sound : Sound (s .year)) (alive : s .rule ≡ 0) (j : ℕ) (h : j < s .year .terms) (z : State) (inv : z ≡ summed (overTo rule10 (stepOf s) j)) where
+module _ (ws : List ℕ) (s : State) (sound : Sound (yearIn ws s)) (alive : s .rule ≡ 0) (j : ℕ) (h : j < s .terms) (z : State) (inv : z ≡ held (overTo rule10 (stepIn ws s) j)) where
   pub fits-10 : getD (z .sums) j noSums .placed .0 + getD (z .sums) j noSums .free .0 < 100
   unfolding sumsAt fixedCount openCount
   fits-10 =
-      let y = z .year in
-      let a = sound-at rule10 lists-10 s sound alive j h z inv in
-      let u = sums-at rule10 lists-10 s sound alive j h z inv in
+      let y = yearIn ws z in
+      let a = sound-at rule10 lists-10 ws s sound alive j h z inv in
+      let u = sums-at rule10 lists-10 ws s sound alive j h z inv in
       let p : getD (z .sums) j noSums .placed .0 ≡ fixedCount y j = ap (λ (u : Sums). u .placed .0) u in
       let f : getD (z .sums) j noSums .free .0 ≡ openCount y j = ap (λ (u : Sums). u .free .0) u in
       omega (arith, counts-le y j, a .courses-most)
 
-  pub turn-10 : z .rule ≡ 0 → (w : Judge) → w ≡ judge10 (termAt (s .year) j) (getD (z .sums) j noSums) → TermTurn rule10 s z j w
+  pub turn-10 : z .rule ≡ 0 → (w : Judge) → w ≡ judge10 (termAt (yearIn ws s) j) (getD (z .sums) j noSums) → TermTurn rule10 ws s z j w
   turn-10 going w q =
-      let read : w ≡ judge10 (termAt (z .year) j) (sumsAt (z .year) j) =
-      q ∙ ap₂ judge10 (term-at rule10 lists-10 s sound alive j h z inv) (sums-at rule10 lists-10 s sound alive j h z inv) in
-      turn-at rule10 lists-10 s sound alive j h z inv going w (judged-10 (z .year) j ∙ ap (λ x. judgeTerm x (z .year) j) (sym read))
+      let read : w ≡ judge10 (termAt (yearIn ws z) j) (sumsAt (yearIn ws z) j) =
+      q ∙ ap₂ judge10 (term-at rule10 lists-10 ws s sound alive j h z inv) (sums-at rule10 lists-10 ws s sound alive j h z inv) in
+      turn-at rule10 lists-10 ws s sound alive j h z inv going w (judged-10 (yearIn ws z) j ∙ ap (λ x. judgeTerm x (yearIn ws z) j) (sym read))
 
 -- ---- where the loops end
-
--- a year in which a rule before it found no plan
-pub passes : (rule : Year → ℕ → Step) (s : State) → s ≡ summed (stepOf s) → (s .rule ≡ 0 → ⊥) → s ≡ summed (overTerms rule (stepOf s))
-unfolding overTo
-passes rule s e d = e ∙ ap summed (sym (over-dead rule (stepOf s) 0 (ne-eqb (s .rule) 0 d) (s .year .terms) (omega arith)))
 
 -- at the last term, or at one where no plan was found
 pub ends : (rule : Year → ℕ → Step) (s : Step) (j : ℕ) → j ≤ s .year .terms → ltb j (s .year .terms) && eqb (overTo rule s j .rule) 0 ≡ false

@@ -1,39 +1,48 @@
 -- A term of rules 3 and 10 as the code judges it.
-use Prim.Native.Nat.{ℕ, zero, suc, _+_, _-_, _≤_, _<_}
+use Prim.Native.Nat.{ℕ, zero, suc, _+_, _-_, _^_, _≤_, _<_}
 use mathlib.Core.Bool.{Bool, true, false, _&&_, _||_, or-true, or-false}
 use mathlib.Core.List.{List}
-use mathlib.Core.Path.{_≡_, refl, sym, ap, _∙_}
+use mathlib.Core.Path.{_≡_, refl, sym, ap, subst, _∙_}
 use native.Mathlib.Nat.{le-refl}
 use native.Mathlib.Omega.{arith}
 use lib.Dec.{leb, ltb}
-use borrow.Author.Tests.{le-ltb, leb-true}
+use lib.ListN.{length, getD}
+use borrow.Author.Tests.{le-ltb, leb-true, ltb-false}
 use Rattle.theory.specs.Choice.{choose, choose-any}
-use Rattle.theory.specs.Tab.{tab}
+use Rattle.theory.specs.Sum.{pick, sum, sum-term-le}
+use Rattle.theory.specs.Tab.{tab, length-tab}
 use Rattle.year.specs.Year.{termAt, courseAt, weight, isOpen, lowCredits, highCredits, lowCount, highCount}
-use Rattle.year.specs.Sums.{openWeight, fixedCredits, openCredits, possibleCredits, fixedCount, openCount, sumsAt}
+use Rattle.year.specs.Sums.{openWeight, fixedCredits, openCredits, possibleCredits, openOne, fixedCount, openCount, sumsTo, sumsAt}
+use Rattle.year.specs.Parts.{listsOf, bare, yearOf}
 use Rattle.year.specs.Sound.{Sound}
+use Rattle.year.specs.declared.Course.{Course}
 use Rattle.year.specs.declared.Sums.{Sums}
 use Rattle.year.specs.declared.Year.{Year}
-use Rattle.rules.specs.Step.{live, dead, judged, next, overTo, overCourses, summed, stepOf}
+use Rattle.year.proofs.PartLaws.{course-in, year-is, weight-fits, list-fits}
+use Rattle.rules.specs.Step.{live, dead, judged, next, overTo, overCourses, held, yearIn, stepIn}
 use Rattle.rules.specs.Lists.{verdict3, rule3Course, rule3, full, needed, verdict10, rule10Course, rule10}
 use Rattle.rules.specs.declared.Step.{Step}
 use Rattle.rules.specs.declared.State.{State}
 use Rattle.rules.specs.declared.Verdict.the-variants.{Stays}
-use Rattle.rules.proofs.Whole.{whole-rest, whole-over, joined}
+use Rattle.rules.proofs.Whole.{Whole, whole-rest, whole-over, joined}
+use Rattle.rules.proofs.Holding.{sums-in}
 use Rattle.lists.specs.Judge.{keptOf, judgeCourse, judge3, judge10, judgeTerm}
 use Rattle.lists.specs.declared.Judge.{Judge}
 use Rattle.lists.specs.declared.Judge.the-variants.{Rests, Credits, Counts, Fails}
 use Rattle.lists.specs.declared.Kept.{Kept}
-use Rattle.lists.proofs.CourseLaws.{lawful, onward}
+use Rattle.lists.proofs.CourseLaws.{lawful, Onward, onward}
 
 -- ---- states and steps are their parts
 
-pub state-is : (z : State) (y : Year) (u : List Sums) (a : Bool) (r : ℕ) → z .year ≡ y → z .sums ≡ u → z .altered ≡ a → z .rule ≡ r
-    → z ≡ record { year = y; sums = u; altered = a; rule = r }
-state-is z y u a r p q s t = λ i. record { year = p i; sums = q i; altered = s i; rule = t i }
+state-is : {r t : State} → r .terms ≡ t .terms → r .courses ≡ t .courses → r .term ≡ t .term → r .list ≡ t .list → r .sums ≡ t .sums → r .altered ≡ t .altered → r .rule ≡ t .rule → r ≡ t
+state-is a b c d e f g = λ i. record { terms = a i; courses = b i; term = c i; list = d i; sums = e i; altered = f i; rule = g i }
 
 pub step-is : {s t : Step} → s .year ≡ t .year → s .altered ≡ t .altered → s .rule ≡ t .rule → s ≡ t
 step-is p q r = λ i. record { year = p i; altered = q i; rule = r i }
+
+-- a step leaves the weights that are lent
+pub weights-stay : (ws : List ℕ) (s : State) (p : Step) → Whole (yearIn ws s) p → (i : ℕ) → i < 64 → getD ws i 0 ≡ weight (p .year) i
+weights-stay ws s p v i h = sym (v .weight-same i ∙ ap (λ (c : Course). c .weight .0) (course-in ws (s .list) i h))
 
 -- ---- the code of one term
 
@@ -43,46 +52,70 @@ courses-of Credits y j d = refl
 courses-of (Counts full needed) y j d = refl
 courses-of Fails y j d = absurd (d refl)
 
-module _ (s : State) (w : Judge) (j : ℕ) (sound : Sound (s .year)) (h : j < s .year .terms) (z : s .rule ≡ 0) (e : s ≡ summed (stepOf s)) where
+module _ (ws : List ℕ) (s : State) (w : Judge) (j : ℕ) (h : j < s .terms) (sound : Sound (yearIn ws s)) (e : s ≡ held (stepIn ws s)) (z : s .rule ≡ 0) where
   abbrev after : State
-  after = summed (next (judgeTerm w) (stepOf s) j)
+  after = held (next (judgeTerm w) (stepIn ws s) j)
 
-  pub sums-are : s .sums ≡ tab 16 (sumsAt (s .year))
-  sums-are = ap (λ (t : State). t .sums) e
-
-  pub fails : w ≡ Fails → record { year = s .year; sums = s .sums; altered = s .altered; rule = 10 } ≡ after
-  fails q = rw (q, z) (state-is _ (s .year) _ _ 10 refl sums-are (sym (or-false (s .altered))) refl)
+  pub fails : w ≡ Fails → record { terms = s .terms; courses = s .courses; term = s .term; list = s .list; sums = s .sums; altered = s .altered; rule = 10 } ≡ after
+  fails q =
+      rw (q, z)
+      (state-is refl refl refl (ap (λ (t : State). t .list) e) (ap (λ (t : State). t .sums) e) (sym (or-false (s .altered))) refl)
 
   -- k after the courses of the term
-  module _ (d : w ≡ Fails → ⊥) (k : Kept) (q : k ≡ keptOf (overCourses (judgeCourse w j) (live (s .year))) j) where
+  module _ (d : w ≡ Fails → ⊥) (k : Kept) (q : k ≡ keptOf (overCourses (judgeCourse w j) (live (yearIn ws s))) j) where
     abbrev t : Step
-    t = overCourses (judgeCourse w j) (live (s .year))
+    t = overCourses (judgeCourse w j) (live (yearIn ws s))
 
-    year : k .year ≡ t .year
-    year = ap (λ (z : Kept). z .year) q
+    o : Onward (yearIn ws s) (s .courses) t
+    o = onward w j (yearIn ws s) (s .courses)
+
+    whole : Whole (yearIn ws s) t
+    whole =
+        whole-over (judgeCourse w j) (s .courses) (yearIn ws s) (live (yearIn ws s)) (lawful w (s .terms) (s .courses) j h) (whole-rest (yearIn ws s) 0 sound) (s .courses) (le-refl (s .courses))
+
+    list : k .list ≡ listsOf (t .year)
+    list = ap (λ (z : Kept). z .list) q
 
     mark : k .altered ≡ t .altered
     mark = ap (λ (z : Kept). z .altered) q
 
-    after-is : after ≡ summed (joined (stepOf s) t)
-    after-is = rw (z, courses-of w (s .year) j d)
-
-    pub year-sound : Sound (k .year)
-    year-sound =
-        rw year (whole-over (judgeCourse w j) (s .year .courses) (s .year) (live (s .year)) (lawful w (s .year .terms) (s .year .courses) j h) (whole-rest (s .year) 0 sound) (s .year .courses) (le-refl (s .year .courses)) .sound)
+    after-is : after ≡ held (joined (stepIn ws s) t)
+    after-is = rw (z, courses-of w (yearIn ws s) j d)
 
     pub rests : k .altered ≡ false → s ≡ after
     rests a =
-        let o = onward w j (s .year) (s .year .courses) in
         let still : t .altered ≡ false = sym mark ∙ a in
         e
-        ∙ ap summed (step-is (sym (o .quiet still)) (sym (or-false (s .altered)) ∙ ap (λ b. s .altered || b) (sym still)) (z ∙ sym (o .goes-on)))
+        ∙ ap held (step-is (sym (o .quiet still)) (sym (or-false (s .altered)) ∙ ap (λ b. s .altered || b) (sym still)) (z ∙ sym (o .goes-on)))
         ∙ sym after-is
 
-    pub alters : k .altered ≡ true → (u : List Sums) → u ≡ tab 16 (sumsAt (k .year)) → record { year = k .year; sums = u; altered = true; rule = 0 } ≡ after
+    -- the year of the new lists
+    year-after : yearOf (s .terms) (s .courses) (s .term) ws (k .list) ≡ t .year
+    year-after =
+        (λ i. yearOf (sym (whole .terms-same) i) (sym (whole .courses-same) i) (sym (o .term-same) i) ws (list i))
+        ∙ year-is (t .year) ws (whole .sound) (weights-stay ws s t whole)
+
+    sound-after : Sound (yearOf (s .terms) (s .courses) (s .term) ws (k .list))
+    sound-after = subst Sound (sym year-after) (whole .sound)
+
+    -- what sums over them ask
+    pub sums-fit : length ws ≡ 64 → ((s .courses ≤ 64) × (s .courses ≤ length ws) × (s .courses ≤ length (k .list)) × (s .terms ≤ 16))
+        × ((i : ℕ) → i < s .courses → (getD ws i 0 ≤ 1000) × (getD (k .list) i 0 < 2 ^ s .terms))
+    sums-fit l =
+        let long : length (k .list) ≡ 64 = ap length list ∙ length-tab 64 _ in (
+          (sound .courses-most, omega (arith, sound .courses-most), omega (arith, sound .courses-most), sound .terms-most),
+          λ i m. (
+            weight-fits (s .terms) (s .courses) (s .term) ws (k .list) sound-after i m,
+            list-fits (s .terms) (s .courses) (s .term) ws (k .list) sound-after i m,
+          ),
+        )
+
+    pub alters : k .altered ≡ true → (u : List Sums) → u ≡ tab 16 (λ i. sumsTo (bare ws (k .list)) i (s .courses))
+        → record { terms = s .terms; courses = s .courses; term = s .term; list = k .list; sums = u; altered = true; rule = 0 } ≡ after
     alters a u f =
-        let o = onward w j (s .year) (s .year .courses) in
-        state-is _ (t .year) _ _ _ year (f ∙ ap (λ y. tab 16 (sumsAt y)) year) (sym (or-true (s .altered)) ∙ ap (λ b. s .altered || b) (sym a ∙ mark)) (sym (o .goes-on))
+        state-is (sym (whole .terms-same)) (sym (whole .courses-same)) (sym (o .term-same)) list
+        (f ∙ sums-in (s .terms) (s .courses) (s .term) ws (k .list) ∙ ap (λ y. tab 16 (sumsAt y)) year-after)
+        (sym (or-true (s .altered)) ∙ ap (λ b. s .altered || b) (sym a ∙ mark)) (sym (o .goes-on))
         ∙ sym after-is
 
 -- ---- rules 3 and 10 at a term, as it is judged
@@ -123,18 +156,40 @@ judged-3 y j top b = go (leb (fixedCredits y j + top) (highCredits y j)) (leb (l
     go true false e f = credits-is y j
     go false q e f = credits-is y j
 
--- a term that is neither full nor needs all leaves every course
+-- ---- rule 10: a term that is neither full nor needs all leaves every course, and so does one where none is open
+
 counts-rest : (y : Year) (j : ℕ) → overCourses (rule10Course false false j) (live y) ≡ live y
 unfolding rule10Course verdict10
 counts-rest y j = over-rests (rule10Course false false j) y (y .courses) (λ i m. ap (judged y i j) (choose-any (λ v. v ≡ Stays) (isOpen (courseAt y i) j) Stays Stays refl refl))
 
-counts-are : (y : Year) (j : ℕ) (fails p q : Bool)
-    → choose fails (dead 10 y) (overCourses (rule10Course p q j) (live y)) ≡ judgeTerm (choose fails Fails (choose (p || q) (Counts p q) Rests)) y j
+none-open : (y : Year) (j : ℕ) → openCount y j ≡ 0 → (i : ℕ) → i < y .courses → isOpen (courseAt y i) j ≡ false
+unfolding openCount
+none-open y j e i h = go (isOpen (courseAt y i) j) refl (sum-term-le (y .courses) i (openOne y j) h)
+  where
+    go : (b : Bool) → isOpen (courseAt y i) j ≡ b → pick b 1 ≤ sum (y .courses) (openOne y j) → isOpen (courseAt y i) j ≡ false
+    go true q l = absurd (omega arith)
+    go false q l = q
+
+none-rest : (y : Year) (j : ℕ) (p q : Bool) → openCount y j ≡ 0 → overCourses (rule10Course p q j) (live y) ≡ live y
+unfolding rule10Course verdict10
+none-rest y j p q e = over-rests (rule10Course p q j) y (y .courses) (λ i m. rw (none-open y j e i m))
+
+counted : (y : Year) (j : ℕ) (p q : Bool) → overCourses (rule10Course p q j) (live y) ≡ judgeTerm (Counts p q) y j
 unfolding rule10Course judgeCourse
-counts-are y j true p q = refl
-counts-are y j false true q = refl
-counts-are y j false false true = refl
-counts-are y j false false false = counts-rest y j ∙ sym (rests-is y j)
+counted y j p q = refl
+
+counts-are : (y : Year) (j : ℕ) (fails p q : Bool)
+    → choose fails (dead 10 y) (overCourses (rule10Course p q j) (live y)) ≡ judgeTerm (choose fails Fails (choose ((p || q) && ltb 0 (openCount y j)) (Counts p q) Rests)) y j
+counts-are y j fails p q = go fails p q (ltb 0 (openCount y j)) refl
+  where
+    go : (fails p q some : Bool) → ltb 0 (openCount y j) ≡ some
+        → choose fails (dead 10 y) (overCourses (rule10Course p q j) (live y)) ≡ judgeTerm (choose fails Fails (choose ((p || q) && some) (Counts p q) Rests)) y j
+    go true p q some e = refl
+    go false false false some e = counts-rest y j ∙ sym (rests-is y j)
+    go false true q true e = counted y j true q
+    go false false true true e = counted y j false true
+    go false true q false e = none-rest y j true q (omega (arith, ltb-false 0 (openCount y j) e)) ∙ sym (rests-is y j)
+    go false false true false e = none-rest y j false true (omega (arith, ltb-false 0 (openCount y j) e)) ∙ sym (rests-is y j)
 
 pub judged-10 : (y : Year) (j : ℕ) → rule10 y j ≡ judgeTerm (judge10 (termAt y j) (sumsAt y j)) y j
 unfolding rule10 sumsAt fixedCount openCount

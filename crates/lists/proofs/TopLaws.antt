@@ -1,20 +1,22 @@
 -- The heaviest open course of each term: a course more, and what it bounds.
 use Prim.Native.Nat.{ℕ, zero, suc, _+_, _-_, _^_, _≤_, _<_, max}
 use mathlib.Core.Bool.{Bool, true, false, not, _&&_, true≢false}
-use mathlib.Core.List.{_∷_}
-use mathlib.Core.Path.{_≡_, refl, sym, ap, ap₂, _∙_}
+use mathlib.Core.List.{List}
+use mathlib.Core.Path.{_≡_, refl, sym, ap, _∙_}
 use native.Mathlib.Numerals.{add-one}
 use native.Mathlib.Decide.{ℕ-discrete}
 use native.Mathlib.Omega.{arith}
 use lib.Dec.{eqb, ltb}
+use lib.ListN.{getD}
 use borrow.Author.Tests.{ltb-true, ltb-false, eq-eqb, ne-eqb}
 use Rattle.theory.specs.Sum.{pick, pick-le}
 use Rattle.theory.specs.Tests.{and-true, and-of}
 use Rattle.theory.specs.Bits.{has, has-le, has-some, has-struck, has-power}
-use Rattle.theory.specs.Tab.{tab, getD-tab}
-use Rattle.year.specs.Year.{courseAt, weight, list, lists, isFixed, isOpen}
+use Rattle.theory.specs.Tab.{tab, getD-tab, tab-cong}
+use Rattle.year.specs.Year.{zeroCourse, courseAt, weight, list, lists, isFixed, isOpen}
 use Rattle.year.specs.Sums.{openWeight}
 use Rattle.year.specs.Sound.{Sound}
+use Rattle.year.specs.declared.Course.{Course}
 use Rattle.year.specs.declared.Year.{Year}
 use Rattle.rules.specs.declared.Step.{Step}
 use Rattle.rules.proofs.Whole.{Whole}
@@ -28,33 +30,28 @@ pub larger-second : (b : Bool) (top w : ℕ) → b && ltb top w ≡ false → to
 larger-second true top w e = omega (arith, ltb-false top w e)
 larger-second false top w e = omega arith
 
-pub top-more : (y : Year) (n j : ℕ) → topTo y (n + 1) j ≡ max (topTo y n j) (openWeight y j n)
+pub top-more : (cs : List Course) (n j : ℕ) → topTo cs (n + 1) j ≡ max (topTo cs n j) (pick (isOpen (getD cs n zeroCourse) j) (getD cs n zeroCourse .weight .0))
 unfolding topTo
-top-more y n j = rw add-one
+top-more cs n j = rw add-one
 
--- an array is known by its entries
-tab-same : (n : ℕ) (f g : ℕ → ℕ) → ((k : ℕ) → k < n → f k ≡ g k) → tab n f ≡ tab n g
-unfolding tab
-tab-same zero f g h = refl
-tab-same (suc n) f g h = ap₂ _∷_ (h 0 (omega arith)) (tab-same n (λ k. f (suc k)) (λ k. g (suc k)) (λ k l. h (suc k) (omega arith)))
-
-pub tops-more : (y : Year) (n : ℕ) → tab 16 (topWith (tab 16 (topTo y n)) (courseAt y n)) ≡ tab 16 (topTo y (n + 1))
-tops-more y n =
-    tab-same 16 (topWith (tab 16 (topTo y n)) (courseAt y n)) (topTo y (n + 1))
-    (λ k h. ap (λ x. max x (openWeight y k n)) (getD-tab 16 (topTo y n) 0 k h) ∙ sym (top-more y n k))
+pub tops-more : (cs : List Course) (n : ℕ) → tab 16 (topWith (tab 16 (topTo cs n)) (getD cs n zeroCourse)) ≡ tab 16 (topTo cs (n + 1))
+tops-more cs n =
+    let c = getD cs n zeroCourse in
+    tab-cong 16 (topWith (tab 16 (topTo cs n)) c) (topTo cs (n + 1))
+    (λ k h. ap (λ x. max x (pick (isOpen c k) (c .weight .0))) (getD-tab 16 (topTo cs n) 0 k h) ∙ sym (top-more cs n k))
 
 -- ---- what it bounds
 
-pub top-bounds : (y : Year) (n j i : ℕ) → i < n → openWeight y j i ≤ topTo y n j
+pub top-bounds : (y : Year) (n j i : ℕ) → i < n → openWeight y j i ≤ topTo (y .course) n j
 unfolding topTo
 top-bounds y zero j i h = absurd (omega arith)
 top-bounds y (suc n) j i h = go (ℕ-discrete i n) (λ q. top-bounds y n j i q)
   where
-    go : Dec (i ≡ n) → (i < n → openWeight y j i ≤ topTo y n j) → openWeight y j i ≤ topTo y (suc n) j
+    go : Dec (i ≡ n) → (i < n → openWeight y j i ≤ topTo (y .course) n j) → openWeight y j i ≤ topTo (y .course) (suc n) j
     go (yes e) ih = rw e (omega arith)
     go (no d) ih = omega (arith, ih (omega arith))
 
-pub top-most : (y : Year) (n j : ℕ) → Sound y → n ≤ y .courses → topTo y n j ≤ 1000
+pub top-most : (y : Year) (n j : ℕ) → Sound y → n ≤ y .courses → topTo (y .course) n j ≤ 1000
 unfolding topTo
 top-most y zero j s h = omega arith
 top-most y (suc n) j s h =

@@ -5,6 +5,7 @@ use lib.Dec.{eqb, leb, ltb}
 use Rattle.theory.specs.Choice.{choose}
 use Rattle.year.specs.Year.{termAt, courseAt}
 use Rattle.year.specs.Sums.{fixedCredits, possibleCredits}
+use Rattle.year.specs.Parts.{listsOf}
 use Rattle.year.specs.declared.Course.{Course}
 use Rattle.year.specs.declared.Sums.{Sums}
 use Rattle.year.specs.declared.Term.{Term}
@@ -18,9 +19,9 @@ use Rattle.lists.specs.declared.Judge.{Judge}
 use Rattle.lists.specs.declared.Judge.the-variants.{Rests, Credits, Counts, Fails}
 use Rattle.lists.specs.declared.Kept.{Kept}
 
--- a year with p and P of term j
+-- a year's lists with p and P of term j
 abbrev pub kept : Year → Bool → ℕ → Kept
-kept y a j = record { year = y; fixed = fixedCredits y j; possible = possibleCredits y j; altered = a }
+kept y a j = record { list = listsOf y; fixed = fixedCredits y j; possible = possibleCredits y j; altered = a }
 
 abbrev pub keptOf : Step → ℕ → Kept
 keptOf s j = kept (s .year) (s .altered) j
@@ -41,11 +42,11 @@ judgeCourse w j y i = judged y i j (verdictOf w (courseAt y i) (termAt y j) (fix
 abbrev pub judge3 : Term → Sums → ℕ → Judge
 judge3 t u top = choose (leb (u .fixed .0 + top) (t .high .0) && leb (t .low .0 + top) (u .possible .0)) Rests Credits
 
--- rule 10
+-- rule 10: where no course is open none has a verdict
 abbrev pub judge10 : Term → Sums → Judge
 judge10 t u =
     choose (ltb (t .most .0) (u .placed .0) || ltb (u .placed .0 + u .free .0) (t .least .0)) Fails
-    (choose (eqb (u .placed .0) (t .most .0) || eqb (u .placed .0 + u .free .0) (t .least .0))
+    (choose ((eqb (u .placed .0) (t .most .0) || eqb (u .placed .0 + u .free .0) (t .least .0)) && ltb 0 (u .free .0))
     (Counts (eqb (u .placed .0) (t .most .0)) (eqb (u .placed .0 + u .free .0) (t .least .0)))
     Rests)
 

@@ -1,85 +1,54 @@
-// The courses of a term in rising number: the verdict on each, and the door that it opens.
+// The courses of a term in rising number: the verdict on each, and what it makes of the course's list.
 use crate::Judge;
 use crate::Kept;
 use crate::verdicts;
+use rules::State;
 use rules::Verdict;
-use year::Sums;
-use year::Year;
+use totals::parts;
 use year::doors;
 ghost use mathlib.Core.Path.{_≡_};
-ghost use mathlib.Core.Bool.{true};
 ghost use Prim.Native.Nat.{_<_};
-ghost use Rattle.year.specs.Year.{courseAt, isOpen, placed, struck};
-ghost use Rattle.year.specs.Sums.{sumsAt};
+ghost use lib.ListN.{length};
 ghost use Rattle.year.specs.Sound.{Sound};
-ghost use Rattle.rules.specs.Step.{live, overCourses};
-ghost use Rattle.lists.specs.Judge.{kept, keptOf, judgeCourse};
+ghost use Rattle.rules.specs.Step.{live, overCourses, held, yearIn, stepIn};
+ghost use Rattle.lists.specs.Judge.{keptOf, judgeCourse};
 
-// Term j struck from the list of course i, which is open there: its weight is no longer possible.
-fn strike(k: Kept, i: usize, j: usize) -> Kept
-    requires { ⌜ Sound (k .year) ⌝ }
-    requires { ⌜ (i < k .year .courses) × (j < k .year .terms) ⌝ }
-    requires { ⌜ isOpen (courseAt (k .year) i) j ≡ true ⌝ }
-    requires { ⌜ k ≡ kept (k .year) (k .altered) j ⌝ }
-    ensures { λ r. ⌜ r ≡ kept (struck (k .year) i j) true j ⌝ }
+// The courses of term j, one after the other.
+pub fn each_course(s: State, weight: &[u32], j: usize, w: Judge) -> Kept
+    requires { ⌜ (length (now weight) ≡ 64) × (j < s .terms) ⌝ }
+    requires { ⌜ Sound (yearIn (now weight) s) ⌝ }
+    requires { ⌜ s ≡ held (stepIn (now weight) s) ⌝ }
+    ensures { λ r. ⌜ r ≡ keptOf (overCourses (judgeCourse w j) (live (yearIn (now (weight .entry)) s))) j ⌝ }
 {
-    let y = k.year;
-    let w = y.course[i].weight.0;
-    let z = doors::struck(y, i, j);
-    Kept {
-        year: z,
-        fixed: k.fixed,
-        possible: k.possible - w,
-        altered: true,
-    }
-}
-
-// Term j alone on the list of course i, which is open there: its weight is fixed.
-fn fix(k: Kept, i: usize, j: usize) -> Kept
-    requires { ⌜ Sound (k .year) ⌝ }
-    requires { ⌜ (i < k .year .courses) × (j < k .year .terms) ⌝ }
-    requires { ⌜ isOpen (courseAt (k .year) i) j ≡ true ⌝ }
-    requires { ⌜ k ≡ kept (k .year) (k .altered) j ⌝ }
-    ensures { λ r. ⌜ r ≡ kept (placed (k .year) i j) true j ⌝ }
-{
-    let y = k.year;
-    let w = y.course[i].weight.0;
-    let z = doors::placed(y, i, j);
-    Kept {
-        year: z,
-        fixed: k.fixed + w,
-        possible: k.possible,
-        altered: true,
-    }
-}
-
-// The courses of term j, whose sums are u, one after the other.
-pub fn each_course(y: Year, u: Sums, j: usize, w: Judge) -> Kept
-    requires { ⌜ Sound y ⌝ }
-    requires { ⌜ j < y .terms ⌝ }
-    requires { ⌜ u ≡ sumsAt y j ⌝ }
-    ensures { λ r. ⌜ r ≡ keptOf (overCourses (judgeCourse w j) (live y)) j ⌝ }
-{
-    let t = y.term[j];
+    let t = s.term[j];
+    let u = s.sums[j];
+    let list = s.list;
     let mut k = Kept {
-        year: y,
+        list: list,
         fixed: u.fixed.0,
         possible: u.possible.0,
         altered: false,
     };
-    for i in 0..y.courses {
+    let mut i = 0;
+    while i < s.courses {
         // only courses before i were altered
-        let c = y.course[i];
+        let c = parts::course(weight, &list, i);
+        let credits = c.weight.0;
         let v = verdicts::verdict_of(w, c, t, k.fixed, k.possible, j);
         match v {
             Verdict::Struck => {
-                k = strike(k, i, j);
+                k.list[i] = c.list - doors::power(j);
+                k.possible = k.possible - credits;
+                k.altered = true;
             }
             Verdict::Fixed => {
-                k = fix(k, i, j);
+                k.list[i] = doors::power(j);
+                k.fixed = k.fixed + credits;
+                k.altered = true;
             }
             Verdict::Stays => {}
         }
+        i += 1;
     }
     k
 }

@@ -5,15 +5,15 @@ mod tops;
 mod verdicts;
 
 use rules::State;
-use year::Year;
 ghost use mathlib.Core.Path.{_≡_};
+ghost use lib.ListN.{length};
 ghost use Rattle.year.specs.Sound.{Sound};
-ghost use Rattle.rules.specs.Step.{overTerms, summed, stepOf};
+ghost use Rattle.rules.specs.Step.{overTerms, held, yearIn, stepIn};
 ghost use Rattle.rules.specs.Lists.{rule3, rule10};
 
-// A year on its way through the courses of a term, with the credits fixed in that term (p) and those possible there (P).
+// The lists of a year on its way through the courses of a term, with the credits fixed in that term (p) and those possible there (P).
 pub struct Kept {
-    pub year: Year,
+    pub list: [u16; 64],
     pub fixed: u32,
     pub possible: u32,
     pub altered: bool,
@@ -29,46 +29,43 @@ pub enum Judge {
 }
 
 // Rule 3 over the terms of the year.
-pub fn rule_3(s: State) -> State
-    requires { ⌜ Sound (s .year) ⌝ }
-    requires { ⌜ s ≡ summed (stepOf s) ⌝ }
-    ensures { λ r. ⌜ r ≡ summed (overTerms rule3 (stepOf s)) ⌝ }
+pub fn rule_3(s: State, weight: &[u32]) -> State
+    requires { ⌜ length (now weight) ≡ 64 ⌝ }
+    requires { ⌜ Sound (yearIn (now weight) s) ⌝ }
+    requires { ⌜ s ≡ held (stepIn (now weight) s) ⌝ }
+    requires { ⌜ s .rule ≡ 0 ⌝ }
+    ensures { λ r. ⌜ r ≡ held (overTerms rule3 (stepIn (now (weight .entry)) s)) ⌝ }
 {
-    if s.rule != 0 {
-        return s;
-    }
-    let year = s.year;
-    let top = tops::tops(year);
+    let list = s.list;
+    let top = tops::tops(weight, &list, s.courses);
     let mut z = s;
-    for j in 0..year.terms {
+    for j in 0..s.terms {
         // the rule alters lists only, no bounds
-        let t = year.term[j];
+        let t = s.term[j];
         let w = terms::judge_3(t, z.sums[j], top[j]);
         if let Judge::Rests = w {} else {
-            z = terms::judge_term(z, j, w);
+            z = terms::judge_term(z, weight, j, w);
         }
     }
     z
 }
 
 // Rule 10 over the terms of the year, up to one that fails.
-pub fn rule_10(s: State) -> State
-    requires { ⌜ Sound (s .year) ⌝ }
-    requires { ⌜ s ≡ summed (stepOf s) ⌝ }
-    ensures { λ r. ⌜ r ≡ summed (overTerms rule10 (stepOf s)) ⌝ }
+pub fn rule_10(s: State, weight: &[u32]) -> State
+    requires { ⌜ length (now weight) ≡ 64 ⌝ }
+    requires { ⌜ Sound (yearIn (now weight) s) ⌝ }
+    requires { ⌜ s ≡ held (stepIn (now weight) s) ⌝ }
+    requires { ⌜ s .rule ≡ 0 ⌝ }
+    ensures { λ r. ⌜ r ≡ held (overTerms rule10 (stepIn (now (weight .entry)) s)) ⌝ }
 {
-    if s.rule != 0 {
-        return s;
-    }
-    let year = s.year;
     let mut z = s;
     let mut j = 0;
-    while (j < year.terms) & (z.rule == 0) {
+    while (j < s.terms) & (z.rule == 0) {
         // the rule alters lists only, no bounds
-        let t = year.term[j];
+        let t = s.term[j];
         let w = terms::judge_10(t, z.sums[j]);
         if let Judge::Rests = w {} else {
-            z = terms::judge_term(z, j, w);
+            z = terms::judge_term(z, weight, j, w);
         }
         j += 1;
     }

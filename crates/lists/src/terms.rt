@@ -4,11 +4,11 @@ use crate::courses;
 use rules::State;
 use year::Sums;
 use year::Term;
-use year::totals;
 ghost use mathlib.Core.Path.{_≡_};
 ghost use Prim.Native.Nat.{_+_, _<_};
+ghost use lib.ListN.{length};
 ghost use Rattle.year.specs.Sound.{Sound};
-ghost use Rattle.rules.specs.Step.{next, summed, stepOf};
+ghost use Rattle.rules.specs.Step.{next, held, yearIn, stepIn};
 ghost use Rattle.lists.specs.Judge.{judge3, judge10, judgeTerm};
 
 // Rule 3: no open course weighs more than `top`, so there is nothing to do with room for it and enough without it.
@@ -33,35 +33,37 @@ pub fn judge_10(t: Term, u: Sums) -> Judge
     }
     let full = u.placed.0 == t.most.0;
     let needed = listed == t.least.0;
-    if full | needed {
+    if (full | needed) & (0 < u.free.0) {
         return Judge::Counts(full, needed);
     }
     Judge::Rests
 }
 
 // Term j as it is judged. The sums are computed anew only where a list was altered.
-pub fn judge_term(s: State, j: usize, w: Judge) -> State
-    requires { ⌜ Sound (s .year) ⌝ }
-    requires { ⌜ j < s .year .terms ⌝ }
+pub fn judge_term(s: State, weight: &[u32], j: usize, w: Judge) -> State
+    requires { ⌜ (length (now weight) ≡ 64) × (j < s .terms) ⌝ }
+    requires { ⌜ Sound (yearIn (now weight) s) ⌝ }
+    requires { ⌜ s ≡ held (stepIn (now weight) s) ⌝ }
     requires { ⌜ s .rule ≡ 0 ⌝ }
-    requires { ⌜ s ≡ summed (stepOf s) ⌝ }
-    ensures { λ r. ⌜ r ≡ summed (next (judgeTerm w) (stepOf s) j) ⌝ }
+    ensures { λ r. ⌜ r ≡ held (next (judgeTerm w) (stepIn (now (weight .entry)) s) j) ⌝ }
 {
     if let Judge::Fails = w {
         let mut z = s;
         z.rule = 10;
         return z;
     }
-    let y = s.year;
-    let u = s.sums[j];
-    let k = courses::each_course(y, u, j, w);
+    let k = courses::each_course(s, weight, j, w);
     if !k.altered {
         return s;
     }
-    let year = k.year;
-    let sums = totals::sums_of(year);
+    let term = s.term;
+    let list = k.list;
+    let sums = totals::sums_over(weight, &list, s.terms, s.courses);
     State {
-        year: year,
+        terms: s.terms,
+        courses: s.courses,
+        term: term,
+        list: list,
         sums: sums,
         altered: true,
         rule: 0,

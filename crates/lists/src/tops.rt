@@ -1,14 +1,15 @@
 // The weight of the heaviest course that is open in each term. Lists only shrink, so it bounds the open courses of every later year as well.
+use totals::parts;
 use year::Course;
 use year::Year;
-use year::totals;
 ghost use mathlib.Core.Path.{_≡_};
-ghost use Prim.Native.Nat.{_<_, max};
+ghost use Prim.Native.Nat.{_≤_, _<_, max};
+ghost use lib.ListN.{length};
 ghost use Rattle.theory.specs.Sum.{pick};
 ghost use Rattle.theory.specs.Tab.{tab};
 ghost use Rattle.year.specs.Year.{isOpen};
-ghost use Rattle.year.specs.Sound.{Sound};
-ghost use Rattle.lists.specs.Tops.{topWith, topAt};
+ghost use Rattle.year.specs.Parts.{coursesOf};
+ghost use Rattle.lists.specs.Tops.{topWith, topTo};
 
 // The weight at hand, or the course's if that is open in term k and heavier.
 fn heavier(top: u32, c: Course, k: usize) -> u32
@@ -34,14 +35,14 @@ fn with_course(top: [u32; 16], c: Course) -> [u32; 16]
     r
 }
 
-// All sixteen, over all courses.
-pub fn tops(y: Year) -> [u32; 16]
-    requires { ⌜ Sound y ⌝ }
-    ensures { λ r. ⌜ r ≡ tab 16 (topAt y) ⌝ }
+// All sixteen, over the first n courses.
+pub fn tops(weight: &[u32], list: &[u16], n: usize) -> [u32; 16]
+    requires { ⌜ (n ≤ 64) × (n ≤ length (now weight)) × (n ≤ length (now list)) ⌝ }
+    ensures { λ r. ⌜ r ≡ tab 16 (topTo (coursesOf (now (weight .entry)) (now (list .entry))) n) ⌝ }
 {
     let mut top = [0u32; 16];
-    for i in 0..y.courses {
-        let next = with_course(top, y.course[i]);
+    for i in 0..n {
+        let next = with_course(top, parts::course(weight, list, i));
         top = next;
     }
     top

@@ -3,18 +3,11 @@ use crate::Judge;
 use rules::Verdict;
 use year::Course;
 use year::Term;
-use year::totals;
+use year::tighter;
 ghost use mathlib.Core.Path.{_≡_};
 ghost use Prim.Native.Nat.{_+_, _-_, _<_};
 ghost use Rattle.rules.specs.Lists.{verdict3, verdict10};
 ghost use Rattle.lists.specs.Judge.{verdictOf};
-
-// a less b, and 0 where b is larger.
-fn less(a: u32, b: u32) -> u32
-    ensures { λ r. ⌜ r ≡ a - b ⌝ }
-{
-    if a < b { 0 } else { a - b }
-}
 
 // Rule 3 with p credits fixed in term j and those possible there.
 fn verdict_3(c: Course, t: Term, p: u32, possible: u32, j: usize) -> Verdict
@@ -29,7 +22,7 @@ fn verdict_3(c: Course, t: Term, p: u32, possible: u32, j: usize) -> Verdict
     if t.high.0 < p + w {
         return Verdict::Struck;
     }
-    if less(possible, w) < t.low.0 {
+    if tighter::less(possible, w) < t.low.0 {
         return Verdict::Fixed;
     }
     Verdict::Stays

@@ -1,20 +1,33 @@
--- Rule 11 on the state that the code carries.
-use Prim.Native.Nat.{_+_, _/_}
-use mathlib.Core.Bool.{Bool, true, false, _||_, or-false}
-use mathlib.Core.Path.{_≡_, refl, sym, ap, _∙_}
-use lib.Dec.{eqb}
+-- Rule 11 on the state that the code carries: its tests over the parts are the year's, and its answer is the step's.
+use Prim.Native.Nat.{ℕ, _+_, _-_, _*_, _/_, _≤_, _<_}
+use mathlib.Core.Bool.{Bool, true, false, not, _||_, or-false}
+use mathlib.Core.List.{List}
+use mathlib.Core.Path.{_≡_, refl, sym, ap, ap₂, _∙_}
+use native.Mathlib.Omega.{arith}
+use lib.Dec.{eqb, ltb}
+use lib.ListN.{getD}
 use borrow.Author.Tests.{ne-eqb}
 use Rattle.theory.specs.Choice.{choose}
+use Rattle.theory.specs.Sum.{pick, sum, sum-cong}
+use Rattle.theory.specs.Packing.{share}
 use Rattle.theory.specs.Tab.{tab}
 use Rattle.theory.specs.Tests.{any}
-use Rattle.year.specs.Sums.{sumsAt}
+use Rattle.year.specs.Sums.{isPlaced, fixedCredits}
+use Rattle.year.specs.Parts.{courseFrom, highIn, fixedIn}
+use Rattle.year.specs.Sound.{Sound}
+use Rattle.year.specs.declared.Course.{Course}
 use Rattle.year.specs.declared.Year.{Year}
-use Rattle.rules.specs.Step.{live, dead, summed, stepOf}
-use Rattle.rules.specs.Packing.{burst, room, bursts, rule11}
+use Rattle.year.proofs.PartLaws.{course-in}
+use Rattle.year.proofs.SumLaws.{fixed-read}
+use Rattle.rules.specs.Step.{step, live, dead, held, yearIn, stepIn}
+use Rattle.rules.specs.Packing.{burst, room, courseShare, termShare, shares, bursts, rule11}
 use Rattle.rules.specs.Round.{once}
 use Rattle.rules.specs.declared.State.{State}
+use Rattle.rules.proofs.Holding.{sums-held}
 use Rattle.rules.proofs.Whole.{next-dead}
-use Rattle.packing.specs.Sizes.{unpackable}
+use Rattle.packing.specs.Bins.{burstIn, roomIn}
+use Rattle.packing.specs.Sizes.{sizeIn, usedIn, shareSum, over, unpackable}
+use Rattle.packing.proofs.SizeLaws.{share-pick, share-tab, test-is, any-same, largest-most}
 
 rule11-is : (y : Year) → rule11 y ≡ choose (unpackable y) (dead 11 y) (live y)
 unfolding rule11 unpackable
@@ -27,22 +40,87 @@ rule11-is y = go (any (y .terms) (burst y)) (eqb (room y) 0)
     go false true = refl
     go false false = refl
 
-module _ (s : State) (e : s ≡ summed (stepOf s)) where
-  -- a rule before found no plan
-  pub passes : (s .rule ≡ 0 → ⊥) → s ≡ summed (once rule11 (stepOf s))
-  passes d = e ∙ ap summed (sym (next-dead (λ y k. rule11 y) (stepOf s) 0 (ne-eqb (s .rule) 0 d)))
+-- a state, with no plan found by rule 11
+abbrev pub failed : State → State
+failed s = record { terms = s .terms; courses = s .courses; term = s .term; list = s .list; sums = s .sums; altered = s .altered; rule = 11 }
 
-  sums-are : s .sums ≡ tab 16 (sumsAt (s .year))
-  sums-are = ap (λ (z : State). z .sums) e
+pub room-most : (w : List ℕ) (s : State) → Sound (yearIn w s) → roomIn (s .term) (s .terms) ≤ 64000
+room-most w s a = largest-most (s .terms) 64000 (highIn (s .term)) (a .term-sound 0 (a .terms-least) .credits-most) (λ k l. a .term-sound k l .credits-most)
+
+module _ (w : List ℕ) (s : State) (e : s ≡ held (stepIn w s)) where
+  -- ---- the tests
+
+  fixed-is : (k : ℕ) → k < 16 → fixedIn (s .sums) k ≡ fixedCredits (yearIn w s) k
+  fixed-is k h = fixed-read (yearIn w s) (s .sums) (sums-held w s e) k h
+
+  courses-are : (c t : ℕ) → s .courses ≤ 64 → sum (s .courses) (courseShare (yearIn w s) c t) ≡ shareSum (tab (s .courses) (sizeIn w (s .list))) c t
+  courses-are c t h =
+      sum-cong (s .courses) (courseShare (yearIn w s) c t) (λ i. share c t (sizeIn w (s .list) i))
+      (λ i l.
+      ap (λ (z : Course). pick (not (isPlaced z)) (share c t (z .weight .0))) (course-in w (s .list) i (omega arith))
+      ∙ sym (share-pick c t (not (isPlaced (courseFrom w (s .list) i))) (getD w i 0)))
+      ∙ sym (share-tab (s .courses) (sizeIn w (s .list)) c t)
+
+  terms-are : (c t : ℕ) → s .terms ≤ 16 → sum (s .terms) (termShare (yearIn w s) c t) ≡ shareSum (tab (s .terms) (usedIn (s .term) (s .sums) c)) c t
+  terms-are c t h =
+      sum-cong (s .terms) (termShare (yearIn w s) c t) (λ k. share c t (usedIn (s .term) (s .sums) c k))
+      (λ k l. ap (λ x. share c t (c - (highIn (s .term) k - x))) (sym (fixed-is k (omega arith))))
+      ∙ sym (share-tab (s .terms) (usedIn (s .term) (s .sums) c) c t)
+
+  shares-are : (c t : ℕ) → Sound (yearIn w s)
+      → shares (yearIn w s) c t ≡ shareSum (tab (s .courses) (sizeIn w (s .list))) c t + shareSum (tab (s .terms) (usedIn (s .term) (s .sums) c)) c t
+  unfolding shares
+  shares-are c t a = ap₂ _+_ (courses-are c t (a .courses-most)) (terms-are c t (a .terms-most))
+
+  abbrev overIn : ℕ → ℕ → Bool
+  overIn c = over (tab (s .courses) (sizeIn w (s .list))) (tab (s .terms) (usedIn (s .term) (s .sums) c)) c (s .terms * c)
+
+  bursting-are : Sound (yearIn w s) → any (s .terms) (burstIn (s .term) (s .sums)) ≡ any (s .terms) (burst (yearIn w s))
+  bursting-are a =
+      any-same (s .terms) (burstIn (s .term) (s .sums)) (burst (yearIn w s))
+      (λ k l. ap (ltb (highIn (s .term) k)) (fixed-is k (omega (arith, a))))
+
+  bursts-are : (c : ℕ) → Sound (yearIn w s) → 0 < c → any (c / 2 + 1) (overIn c) ≡ any (c / 2 + 1) (bursts (yearIn w s) c)
+  bursts-are c a h =
+      sym
+      (any-same (c / 2 + 1) (bursts (yearIn w s) c) (overIn c)
+      (λ t l. test-is c (s .terms) (shares (yearIn w s) c t) h ∙ ap (ltb (s .terms * c)) (shares-are c t a)))
+
+  module _ (a : Sound (yearIn w s)) where
+    pub bursting-is : any (s .terms) (burstIn (s .term) (s .sums)) ≡ true → true ≡ unpackable (yearIn w s)
+    unfolding unpackable
+    bursting-is b = rw (sym (bursting-are a) ∙ b)
+
+    module _ (b : any (s .terms) (burstIn (s .term) (s .sums)) ≡ false) where
+      pub empty-is : roomIn (s .term) (s .terms) ≡ 0 → false ≡ unpackable (yearIn w s)
+      unfolding unpackable
+      empty-is z = rw (sym (bursting-are a) ∙ b, z)
+
+      pub over-is : (c : ℕ) → c ≡ roomIn (s .term) (s .terms) → (c ≡ 0 → ⊥)
+          → any (c / 2 + 1) (over (tab (s .courses) (sizeIn w (s .list))) (tab (s .terms) (usedIn (s .term) (s .sums) c)) c (s .terms * c)) ≡ unpackable (yearIn w s)
+      unfolding unpackable
+      over-is c r z =
+          bursts-are c a (omega (arith, z))
+          ∙ ap (λ x. any (x / 2 + 1) (bursts (yearIn w s) x)) r
+          ∙ rw (sym (bursting-are a) ∙ b, ne-eqb (room (yearIn w s)) 0 (λ q. z (r ∙ q))) refl
+
+  -- ---- the answer
+
+  -- a rule before found no plan
+  pub passes : (s .rule ≡ 0 → ⊥) → s ≡ held (once rule11 (stepIn w s))
+  passes d = e ∙ ap held (sym (next-dead (λ y k. rule11 y) (stepIn w s) 0 (ne-eqb (s .rule) 0 d)))
 
   altered-is : s .altered ≡ s .altered || false
   altered-is = sym (or-false (s .altered))
 
-  pub fails : s .rule ≡ 0 → unpackable (s .year) ≡ true → record { year = s .year; sums = s .sums; altered = s .altered; rule = 11 } ≡ summed (once rule11 (stepOf s))
-  fails z u = rw (z, rule11-is (s .year), u) (λ i. record { year = s .year; sums = sums-are i; altered = altered-is i; rule = 11 })
-
-  pub rests : s .rule ≡ 0 → unpackable (s .year) ≡ false → s ≡ summed (once rule11 (stepOf s))
-  rests z u = e ∙ ap summed still
+  pub fails : s .rule ≡ 0 → unpackable (yearIn w s) ≡ true → failed s ≡ held (once rule11 (stepIn w s))
+  fails z u = ap failed e ∙ ap held dies
     where
-      still : stepOf s ≡ once rule11 (stepOf s)
-      still = rw (z, rule11-is (s .year), u) (λ i. record { year = s .year; altered = altered-is i; rule = 0 })
+      dies : step (yearIn w s) (s .altered) 11 ≡ once rule11 (stepIn w s)
+      dies = rw (z, rule11-is (yearIn w s), u) (λ i. step (yearIn w s) (altered-is i) 11)
+
+  pub rests : s .rule ≡ 0 → unpackable (yearIn w s) ≡ false → s ≡ held (once rule11 (stepIn w s))
+  rests z u = e ∙ ap held still
+    where
+      still : stepIn w s ≡ once rule11 (stepIn w s)
+      still = rw (z, rule11-is (yearIn w s), u) (λ i. step (yearIn w s) (altered-is i) 0)

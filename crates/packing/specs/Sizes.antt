@@ -6,36 +6,32 @@ use lib.Dec.{eqb, ltb}
 use lib.ListN.{length, getD}
 use Rattle.theory.specs.Choice.{choose}
 use Rattle.theory.specs.Sum.{pick, sum}
-use Rattle.theory.specs.Tab.{tab}
 use Rattle.theory.specs.Tests.{any}
 use Rattle.theory.specs.Packing.{share}
-use Rattle.year.specs.Year.{courseAt, highCredits}
-use Rattle.year.specs.Sums.{fixedCredits, isPlaced}
+use Rattle.year.specs.Sums.{isPlaced}
+use Rattle.year.specs.Parts.{courseFrom, highIn, fixedIn}
 use Rattle.year.specs.declared.Course.{Course}
+use Rattle.year.specs.declared.Sums.{Sums}
+use Rattle.year.specs.declared.Term.{Term}
 use Rattle.year.specs.declared.Year.{Year}
 use Rattle.rules.specs.Packing.{burst, room, bursts}
 
--- ---- sizes, 0 past the last course and the last term
+-- ---- sizes
 
 abbrev pub sizeOf : Course → ℕ
 sizeOf c = pick (not (isPlaced c)) (c .weight .0)
 
-abbrev pub sizeAt : Year → ℕ → ℕ
-sizeAt y i = sizeOf (courseAt y i)
+-- of a course that two arrays hold
+abbrev pub sizeIn : List ℕ → List ℕ → ℕ → ℕ
+sizeIn w l i = sizeOf (courseFrom w l i)
 
 -- what of room c is not free in term k
-abbrev pub usedAt : Year → ℕ → ℕ → ℕ
-usedAt y c k = c - (highCredits y k - fixedCredits y k)
+abbrev pub usedIn : List Term → List Sums → ℕ → ℕ → ℕ
+usedIn t s c k = c - (highIn t k - fixedIn s k)
 
 -- the first n numbers, and 0 past them
 abbrev pub firstOf : ℕ → (ℕ → ℕ) → ℕ → ℕ
 firstOf n f k = pick (ltb k n) (f k)
-
-abbrev pub courseSizes : Year → List ℕ
-courseSizes y = tab 64 (firstOf (y .courses) (sizeAt y))
-
-abbrev pub termSizes : Year → ℕ → List ℕ
-termSizes y c = tab 16 (firstOf (y .terms) (usedAt y c))
 
 -- ---- what they count for
 

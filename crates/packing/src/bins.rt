@@ -1,34 +1,32 @@
 // The terms as bins: whether one is over its high credits already, and the room of the largest.
 use year::Sums;
-use year::Year;
+use year::Term;
 ghost use mathlib.Core.Path.{_≡_};
-ghost use Rattle.theory.specs.Tab.{tab};
+ghost use Prim.Native.Nat.{_≤_};
+ghost use lib.ListN.{length};
 ghost use Rattle.theory.specs.Tests.{any};
-ghost use Rattle.year.specs.Sums.{sumsAt};
-ghost use Rattle.year.specs.Sound.{Sound};
-ghost use Rattle.rules.specs.Packing.{burst, room};
+ghost use Rattle.packing.specs.Bins.{burstIn, roomIn};
 
-// What is fixed in some term exceeds its high credits.
-pub fn bursting(y: Year, s: [Sums; 16]) -> bool
-    requires { ⌜ Sound y ⌝ }
-    requires { ⌜ s ≡ tab 16 (sumsAt y) ⌝ }
-    ensures { λ r. ⌜ r ≡ any (y .terms) (burst y) ⌝ }
+// What is fixed in one of the first m terms exceeds its high credits.
+pub fn bursting(term: [Term; 16], m: usize, s: [Sums; 16]) -> bool
+    requires { ⌜ (m ≤ 16) × (length term ≡ 16) × (length s ≡ 16) ⌝ }
+    ensures { λ r. ⌜ r ≡ any m (burstIn term s) ⌝ }
 {
     let mut found = false;
-    for k in 0..y.terms {
-        found = found | (y.term[k].high.0 < s[k].fixed.0);
+    for k in 0..m {
+        found = found | (term[k].high.0 < s[k].fixed.0);
     }
     found
 }
 
-// The largest high credits.
-pub fn room(y: Year) -> u32
-    requires { ⌜ Sound y ⌝ }
-    ensures { λ r. ⌜ r ≡ room y ⌝ }
+// The largest high credits of the first m terms.
+pub fn room(term: [Term; 16], m: usize) -> u32
+    requires { ⌜ (m ≤ 16) × (length term ≡ 16) ⌝ }
+    ensures { λ r. ⌜ r ≡ roomIn term m ⌝ }
 {
-    let mut most = y.term[0].high.0;
-    for k in 0..y.terms {
-        let x = y.term[k].high.0;
+    let mut most = term[0].high.0;
+    for k in 0..m {
+        let x = term[k].high.0;
         most = if most < x { x } else { most };
     }
     most

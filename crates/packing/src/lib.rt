@@ -3,49 +3,51 @@ mod bins;
 mod sizes;
 
 use rules::State;
-use year::Sums;
-use year::Year;
 ghost use mathlib.Core.Path.{_≡_};
-ghost use Rattle.theory.specs.Tab.{tab};
-ghost use Rattle.year.specs.Sums.{sumsAt};
+ghost use lib.ListN.{length};
 ghost use Rattle.year.specs.Sound.{Sound};
-ghost use Rattle.rules.specs.Step.{summed, stepOf};
+ghost use Rattle.rules.specs.Step.{held, yearIn, stepIn};
 ghost use Rattle.rules.specs.Packing.{rule11};
 ghost use Rattle.rules.specs.Round.{once};
 ghost use Rattle.packing.specs.Sizes.{unpackable};
 
 // Some term is over its high credits already, or the sizes are too much for all terms together.
-fn unpackable(y: Year, s: [Sums; 16]) -> bool
-    requires { ⌜ Sound y ⌝ }
-    requires { ⌜ s ≡ tab 16 (sumsAt y) ⌝ }
-    ensures { λ r. ⌜ r ≡ unpackable y ⌝ }
+fn unpackable(s: State, weight: &[u32]) -> bool
+    requires { ⌜ length (now weight) ≡ 64 ⌝ }
+    requires { ⌜ Sound (yearIn (now weight) s) ⌝ }
+    requires { ⌜ s ≡ held (stepIn (now weight) s) ⌝ }
+    ensures { λ r. ⌜ r ≡ unpackable (yearIn (now (weight .entry)) s) ⌝ }
 {
-    if bins::bursting(y, s) {
+    let m = s.terms;
+    let n = s.courses;
+    let term = s.term;
+    let sums = s.sums;
+    if bins::bursting(term, m, sums) {
         return true;
     }
-    let c = bins::room(y);
+    let c = bins::room(term, m);
     if c == 0 {
         return false;
     }
-    let course = sizes::course_sizes(y);
-    let term = sizes::term_sizes(y, s, c);
-    let limit = y.terms as u32 * c;
-    sizes::overfull(&course, &term, c, limit)
+    let list = s.list;
+    let course = sizes::course_sizes(weight, &list, n);
+    let own = sizes::term_sizes(term, m, sums, c);
+    let limit = m as u32 * c;
+    sizes::overfull(&course[..n], &own[..m], c, limit)
 }
 
 // Rule 11, once for the year.
-pub fn rule_11(s: State) -> State
-    requires { ⌜ Sound (s .year) ⌝ }
-    requires { ⌜ s ≡ summed (stepOf s) ⌝ }
-    ensures { λ r. ⌜ r ≡ summed (once rule11 (stepOf s)) ⌝ }
+pub fn rule_11(s: State, weight: &[u32]) -> State
+    requires { ⌜ length (now weight) ≡ 64 ⌝ }
+    requires { ⌜ Sound (yearIn (now weight) s) ⌝ }
+    requires { ⌜ s ≡ held (stepIn (now weight) s) ⌝ }
+    ensures { λ r. ⌜ r ≡ held (once rule11 (stepIn (now (weight .entry)) s)) ⌝ }
 {
     if s.rule != 0 {
         return s;
     }
-    let year = s.year;
-    let sums = s.sums;
     let mut z = s;
-    if unpackable(year, sums) {
+    if unpackable(s, weight) {
         z.rule = 11;
     }
     z

@@ -1,18 +1,17 @@
 // Sizes: the weight of each course with several terms, and for each term what of the room c is not free there.
 // What they count for at t, and the most that they count for at any t.
+use totals::parts;
 use year::Course;
 use year::Sums;
-use year::Year;
-use year::totals;
+use year::Term;
+use year::tighter;
 ghost use mathlib.Core.Path.{_≡_};
 ghost use Prim.Native.Nat.{_+_, _-_, _/_, _≤_};
 ghost use lib.ListN.{length};
 ghost use Rattle.theory.specs.Packing.{share};
 ghost use Rattle.theory.specs.Tab.{tab};
 ghost use Rattle.theory.specs.Tests.{any};
-ghost use Rattle.year.specs.Sums.{sumsAt};
-ghost use Rattle.year.specs.Sound.{Sound};
-ghost use Rattle.packing.specs.Sizes.{sizeOf, courseSizes, termSizes, capped, shareSum, capSum, over};
+ghost use Rattle.packing.specs.Sizes.{sizeOf, sizeIn, usedIn, firstOf, capped, shareSum, capSum, over};
 
 // The weight of a course with several terms.
 fn course_size(c: Course) -> u32
@@ -24,36 +23,28 @@ fn course_size(c: Course) -> u32
     c.weight.0
 }
 
-// The sizes of the courses; 0 past the last.
-pub fn course_sizes(y: Year) -> [u32; 64]
-    requires { ⌜ Sound y ⌝ }
-    ensures { λ r. ⌜ r ≡ courseSizes y ⌝ }
+// The sizes of the first n courses; 0 past them.
+pub fn course_sizes(weight: &[u32], list: &[u16], n: usize) -> [u32; 64]
+    requires { ⌜ (n ≤ 64) × (n ≤ length (now weight)) × (n ≤ length (now list)) ⌝ }
+    ensures { λ r. ⌜ r ≡ tab 64 (firstOf n (sizeIn (now (weight .entry)) (now (list .entry)))) ⌝ }
 {
     let mut r = [0u32; 64];
-    for i in 0..y.courses {
-        r[i] = course_size(y.course[i]);
+    for i in 0..n {
+        r[i] = course_size(parts::course(weight, list, i));
     }
     r
 }
 
-// The sizes of the terms with room c; 0 past the last.
-pub fn term_sizes(y: Year, s: [Sums; 16], c: u32) -> [u32; 16]
-    requires { ⌜ Sound y ⌝ }
-    requires { ⌜ s ≡ tab 16 (sumsAt y) ⌝ }
-    ensures { λ r. ⌜ r ≡ termSizes y c ⌝ }
+// The sizes of the first m terms with room c; 0 past them.
+pub fn term_sizes(term: [Term; 16], m: usize, s: [Sums; 16], c: u32) -> [u32; 16]
+    requires { ⌜ (m ≤ 16) × (length term ≡ 16) × (length s ≡ 16) ⌝ }
+    ensures { λ r. ⌜ r ≡ tab 16 (firstOf m (usedIn term s c)) ⌝ }
 {
     let mut r = [0u32; 16];
-    for k in 0..y.terms {
-        r[k] = less(c, less(y.term[k].high.0, s[k].fixed.0));
+    for k in 0..m {
+        r[k] = tighter::less(c, tighter::less(term[k].high.0, s[k].fixed.0));
     }
     r
-}
-
-// a less b, and 0 where b is larger.
-fn less(a: u32, b: u32) -> u32
-    ensures { λ r. ⌜ r ≡ a - b ⌝ }
-{
-    if a < b { 0 } else { a - b }
 }
 
 // What a size counts for at t: all of c above c - t, nothing below t, itself between.

@@ -42,9 +42,13 @@ laid-front : (b l : List ℕ) → laid b 0 l ≡ l ++ drop (length l) b
 unfolding laid
 laid-front b l = ap (λ (n : ℕ). l ++ drop n b) (zero-add (length l))
 
-pub write-done : (y : Year) (b : List ℕ) → isSound y ≡ true → (y .terms + y .courses) * 16 ≤ length b → (Done ≡ writeAnswer y (length b)) × (laid (laid b 0 (joined (termBlock y) (y .terms))) (y .terms * 16) (joined (courseBlock y) (y .courses)) ≡ written y b)
-unfolding writeAnswer written recordsOf
-write-done y b e h =
+pub write-done : (y : Year) (b : List ℕ) → isSound y ≡ true → (y .terms + y .courses) * 16 ≤ length b → Done ≡ writeAnswer y (length b)
+unfolding writeAnswer
+write-done y b e h = let n = le-leb (length (recordsOf y)) (length b) (omega (arith, records-length y)) in rw (e, n) refl
+
+pub laid-all : (y : Year) (b : List ℕ) → Sound y → (y .terms + y .courses) * 16 ≤ length b → laid (laid b 0 (joined (termBlock y) (y .terms))) (y .terms * 16) (joined (courseBlock y) (y .courses)) ≡ written y b
+unfolding written recordsOf
+laid-all y b s h =
     let t = joined (termBlock y) (y .terms) in
     let d = joined (courseBlock y) (y .courses) in
     let n = le-leb (length (t ++ d)) (length b) (omega (arith, records-length y)) in
@@ -52,7 +56,7 @@ write-done y b e h =
     let at : y .terms * 16 ≡ 0 + length t = omega arith in
     let all : laid (laid b 0 t) (y .terms * 16) d ≡ (t ++ d) ++ drop (length (t ++ d)) b =
     ap (λ (k : ℕ). laid (laid b 0 t) k d) at ∙ laid-more b 0 t (omega arith) d ∙ laid-front b (t ++ d) in
-    (rw (e, n) refl, rw (e, n) all)
+    rw (sound-to y s, n) all
 
 -- ---- the buffer afterwards
 

@@ -8,7 +8,9 @@ use year::Term;
 use year::Year;
 use year::sound;
 ghost use mathlib.Core.Path.{_≡_};
+ghost use Prim.Native.Nat.{_+_, _*_, _≤_};
 ghost use lib.ListN.{length};
+ghost use Rattle.year.specs.Sound.{Sound};
 ghost use Rattle.records.specs.Reading.{blankYear, refused, badLength, readList};
 ghost use Rattle.records.specs.Writing.{writeAnswer, written};
 
@@ -115,6 +117,16 @@ pub fn read(s: &[u8]) -> Received
     }
 }
 
+// Writes the records of a year that is known to be sound into the front of a buffer that is known to have room for them.
+pub fn write_sound(y: Year, buf: &mut [u8])
+    requires { ⌜ Sound y ⌝ }
+    requires { ⌜ (y .terms + y .courses) * 16 ≤ length (now buf) ⌝ }
+    ensures { λ _. ⌜ now (buf .exit) ≡ written y (now (buf .entry)) ⌝ }
+{
+    blocks::put_terms(y, buf);
+    blocks::put_courses(y, buf);
+}
+
 // Writes the records of a sound year into the front of a buffer that has room for them.
 pub fn write(y: Year, buf: &mut [u8]) -> Writing
     ensures { λ r. ⌜ r ≡ writeAnswer y (length (now (buf .entry))) ⌝ }
@@ -126,7 +138,6 @@ pub fn write(y: Year, buf: &mut [u8]) -> Writing
     if buf.len() < (y.terms + y.courses) * RECORD {
         return Writing::Short;
     }
-    blocks::put_terms(y, buf);
-    blocks::put_courses(y, buf);
+    write_sound(y, buf);
     Writing::Done
 }

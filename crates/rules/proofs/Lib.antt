@@ -1,6 +1,7 @@
 -- Laws about the rules. Every step leaves a whole year and less to narrow; every rule keeps exactly the plans.
 pub mod Measure
 pub mod Whole
+pub mod Holding
 pub mod Steps
 pub mod Kept
 pub mod Alike

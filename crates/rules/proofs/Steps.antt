@@ -56,10 +56,10 @@ pair-falls low high a b h = go (ltb low a) (ltb b high) refl refl
     go false true e f = omega (arith, ltb-true b high f)
     go false false e f = omega arith
 
-abbrev OutcomeTighter : Term → Outcome → Type 0
+abbrev pub OutcomeTighter : Term → Outcome → Type 0
 OutcomeTighter t o = Tighter t (o .term) (o .altered)
 
-credits-tighter : (r : ℕ) (fails : Bool) (t : Term) (a b : ℕ) → TermSound t → OutcomeTighter t (outcome r fails t (creditsWithin t a b))
+pub credits-tighter : (r : ℕ) (fails : Bool) (t : Term) (a b : ℕ) → TermSound t → OutcomeTighter t (outcome r fails t (creditsWithin t a b))
 unfolding creditsWithin outcome
 credits-tighter r fails t a b s =
     choose-case (OutcomeTighter t) (fails || ltb (min (t .high .0) b) (max (t .low .0) a)) _ _ (λ e. tighter-same t s)
@@ -74,7 +74,7 @@ credits-tighter r fails t a b s =
       falls = omega (arith, pair-falls (t .low .0) (t .high .0) a b h);
     })
 
-counts-tighter : (r : ℕ) (fails : Bool) (t : Term) (a b : ℕ) → TermSound t → OutcomeTighter t (outcome r fails t (countsWithin t a b))
+pub counts-tighter : (r : ℕ) (fails : Bool) (t : Term) (a b : ℕ) → TermSound t → OutcomeTighter t (outcome r fails t (countsWithin t a b))
 unfolding countsWithin outcome
 counts-tighter r fails t a b s =
     choose-case (OutcomeTighter t) (fails || ltb (min (t .most .0) b) (max (t .least .0) a)) _ _ (λ e. tighter-same t s)

@@ -1,6 +1,7 @@
 -- Steps of rules. Every step sees the year left by the step before, and a step that finds no plan is the last.
 use Prim.Native.Nat.{ℕ, zero, suc, _+_}
 use mathlib.Core.Bool.{Bool, true, false, _||_}
+use mathlib.Core.List.{List}
 use mathlib.Core.Path.{_≡_, refl}
 use native.Mathlib.Numerals.{add-one}
 use lib.Dec.{eqb}
@@ -8,6 +9,7 @@ use Rattle.theory.specs.Choice.{choose}
 use Rattle.theory.specs.Tab.{tab}
 use Rattle.year.specs.Year.{termAt, withTerm, placed, struck}
 use Rattle.year.specs.Sums.{sumsAt}
+use Rattle.year.specs.Parts.{listsOf, yearOf}
 use Rattle.year.specs.declared.Term.{Term}
 use Rattle.year.specs.declared.Tight.{Tight}
 use Rattle.year.specs.declared.Year.{Year}
@@ -72,10 +74,21 @@ pub over-more : (f : Year → ℕ → Step) (s : Step) (k : ℕ) → overTo f s 
 unfolding overTo
 over-more f s k = rw add-one
 
--- ---- the same beside the sums, as the code carries it
+-- ---- the same as the code carries it: in parts, beside the sums, and without the weights w
 
-abbrev pub summed : Step → State
-summed s = record { year = s .year; sums = tab 16 (sumsAt (s .year)); altered = s .altered; rule = s .rule }
+abbrev pub held : Step → State
+held p = record {
+  terms = p .year .terms;
+  courses = p .year .courses;
+  term = p .year .term;
+  list = listsOf (p .year);
+  sums = tab 16 (sumsAt (p .year));
+  altered = p .altered;
+  rule = p .rule;
+}
 
-abbrev pub stepOf : State → Step
-stepOf s = step (s .year) (s .altered) (s .rule)
+abbrev pub yearIn : List ℕ → State → Year
+yearIn w s = yearOf (s .terms) (s .courses) (s .term) w (s .list)
+
+abbrev pub stepIn : List ℕ → State → Step
+stepIn w s = step (yearIn w s) (s .altered) (s .rule)

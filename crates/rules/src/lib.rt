@@ -3,9 +3,13 @@ use year::Sums;
 use year::Term;
 use year::Year;
 
-// A year on its way through the rules: its sums, whether something was altered, and the rule that found no plan (0 while none has).
+// A year on its way through the rules, but for the weights, which never change: its sizes, bounds and lists, the sums of
+// its terms, whether something was altered, and the rule that found no plan (0 while none has).
 pub struct State {
-    pub year: Year,
+    pub terms: usize,
+    pub courses: usize,
+    pub term: [Term; 16],
+    pub list: [u16; 64],
     pub sums: [Sums; 16],
     pub altered: bool,
     pub rule: u32,

@@ -2,4 +2,5 @@
 pub mod SoundLaws
 pub mod DoorLaws
 pub mod SumLaws
+pub mod PartLaws
 pub mod SpreadLaws

@@ -9,6 +9,7 @@ use Rattle.theory.specs.Sum.{pick, sum, sum-more, sum-mono, sum-add, sum-le-mul
 use Rattle.theory.specs.Tab.{tab, getD-tab}
 use Rattle.year.specs.Year.{courseAt, weight, isFixed, lists}
 use Rattle.year.specs.Sums.{fixedWeight, openWeight, fixedOne, openOne, fixedCredits, openCredits, fixedCount, openCount, allCredits, sumsTo, sumsAt, sumsWith, noSums}
+use Rattle.year.specs.Parts.{fixedIn}
 use Rattle.year.specs.Sound.{Sound}
 use Rattle.year.specs.declared.Sums.{Sums}
 use Rattle.year.specs.declared.Year.{Year}
@@ -22,8 +23,11 @@ apart true false x = omega arith
 apart false true x = omega arith
 apart false false x = omega arith
 
-pub weights-to : (y : Year) (n : ℕ) → Sound y → n ≤ y .courses → sum n (weight y) ≤ 1000 * n
-weights-to y n s h = omega (arith, sum-le-mul n 1000 (weight y) (λ i l. s .course-sound i (omega arith) .weight-most))
+pub weights-to : (y : Year) (n : ℕ) → ((i : ℕ) → i < n → weight y i ≤ 1000) → sum n (weight y) ≤ 1000 * n
+weights-to y n h = omega (arith, sum-le-mul n 1000 (weight y) h)
+
+pub weights-fit : (y : Year) (n : ℕ) → Sound y → n ≤ y .courses → (i : ℕ) → i < n → weight y i ≤ 1000
+weights-fit y n s h i l = s .course-sound i (omega arith) .weight-most
 
 pub possible-to : (y : Year) (j n : ℕ) → sum n (fixedWeight y j) + sum n (openWeight y j) ≤ sum n (weight y)
 possible-to y j n =
@@ -52,22 +56,22 @@ sums-more y j n =
     λ i. record { fixed = record { 0 = f i }; possible = record { 0 = p i }; placed = record { 0 = c i }; free = record { 0 = o i } }
 
 -- and no sum passes its size on the way
-pub sums-fit : (y : Year) (j n : ℕ) (s : Sums) → Sound y → n < y .courses → s ≡ sumsTo y j n
+pub sums-fit : (y : Year) (j n : ℕ) (s : Sums) → n < 64 → ((i : ℕ) → i ≤ n → weight y i ≤ 1000) → s ≡ sumsTo y j n
     → (weight y n ≤ 1000) × (s .possible .0 ≤ 64000) × (s .placed .0 ≤ 64) × (s .free .0 ≤ 64) × (s .fixed .0 ≤ s .possible .0)
-sums-fit y j n s t h e =
+sums-fit y j n s h t e =
     let f : s .fixed .0 ≡ sum n (fixedWeight y j) = ap (λ (z : Sums). z .fixed .0) e in
     let p : s .possible .0 ≡ sum n (fixedWeight y j) + sum n (openWeight y j) = ap (λ (z : Sums). z .possible .0) e in
     let c : s .placed .0 ≡ sum n (fixedOne y j) = ap (λ (z : Sums). z .placed .0) e in
     let o : s .free .0 ≡ sum n (openOne y j) = ap (λ (z : Sums). z .free .0) e in
-    let credits : s .possible .0 ≤ 1000 * n = omega (arith, weights-to y n t (omega arith), possible-to y j n) in
+    let credits : s .possible .0 ≤ 1000 * n = omega (arith, weights-to y n (λ i l. t i (omega arith)), possible-to y j n) in
     let counts : s .placed .0 + s .free .0 ≤ n = omega (arith, counts-to y j n) in
-    (t .course-sound n h .weight-most, omega (arith, t), omega (arith, t), omega (arith, t), omega arith)
+    (t n (omega arith), omega arith, omega arith, omega arith, omega arith)
 
 -- ---- over the year
 
 pub all-credits-le : (y : Year) → Sound y → allCredits y ≤ 1000 * y .courses
 unfolding allCredits
-all-credits-le y s = weights-to y (y .courses) s (omega arith)
+all-credits-le y s = weights-to y (y .courses) (weights-fit y (y .courses) s (omega arith))
 
 pub possible-le : (y : Year) (j : ℕ) → fixedCredits y j + openCredits y j ≤ allCredits y
 unfolding fixedCredits openCredits allCredits
@@ -78,9 +82,6 @@ unfolding fixedCount openCount
 counts-le y j = counts-to y j (y .courses)
 
 -- ---- an array that holds the sums of each term
-
-abbrev pub fixedIn : List Sums → ℕ → ℕ
-fixedIn s k = getD s k noSums .fixed .0
 
 module _ (y : Year) (s : List Sums) (e : s ≡ tab 16 (sumsAt y)) (k : ℕ) (h : k < 16) where
   pub sums-read : getD s k noSums ≡ sumsAt y k

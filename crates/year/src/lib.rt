@@ -1,12 +1,10 @@
-// What a year is: its terms, its courses, its limits; what is sound; the sums; the narrowings; the imbalance.
+// What a year is: its terms, its courses, its limits; what is sound; the doors; the narrowings.
 mod bar;
-pub mod bounds;
 pub mod doors;
 mod limits;
-mod measure;
 mod place;
 pub mod sound;
-pub mod totals;
+pub mod tighter;
 
 ghost use mathlib.Core.Path.{_≡_};
 ghost use Rattle.year.specs.Year.{emptyYear};
@@ -37,6 +35,12 @@ pub struct Year {
     pub courses: usize,
     pub term: [Term; Year::TERMS],
     pub course: [Course; Year::COURSES],
+}
+
+// The courses of a year in two arrays.
+pub struct Columns {
+    pub weight: [u32; Year::COURSES],
+    pub list: [u16; Year::COURSES],
 }
 
 // The four sums of a term: the credits fixed in it (p), those fixed or open (P), the number fixed and the number open.

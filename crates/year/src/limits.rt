@@ -6,9 +6,9 @@ use crate::Narrowing;
 use crate::Term;
 use crate::Tight;
 use crate::Year;
-use crate::bounds;
 use crate::doors;
 use crate::sound;
+use crate::tighter;
 ghost use mathlib.Core.Path.{_≡_};
 ghost use Prim.Native.Nat.{_<_};
 ghost use Rattle.year.specs.Year.{termAt};
@@ -90,7 +90,7 @@ impl Year {
             self,
             j,
             most.0 < v.0,
-            bounds::credits_within(t, v.0, t.high.0),
+            tighter::credits_within(t, v.0, t.high.0),
         )
     }
 
@@ -104,7 +104,7 @@ impl Year {
             self,
             j,
             most.0 < v.0,
-            bounds::credits_within(t, t.low.0, v.0),
+            tighter::credits_within(t, t.low.0, v.0),
         )
     }
 
@@ -118,7 +118,7 @@ impl Year {
             self,
             j,
             most.0 < v.0,
-            bounds::counts_within(t, v.0, t.most.0),
+            tighter::counts_within(t, v.0, t.most.0),
         )
     }
 
@@ -132,7 +132,7 @@ impl Year {
             self,
             j,
             most.0 < v.0,
-            bounds::counts_within(t, t.least.0, v.0),
+            tighter::counts_within(t, t.least.0, v.0),
         )
     }
 }

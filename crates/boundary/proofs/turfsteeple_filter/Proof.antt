@@ -3,6 +3,7 @@ use mathlib.Core.Path.{_≡_, sym, ap, _∙_}
 use Rattle.records.specs.declared.Received.{Received}
 use Rattle.boundary.proofs.CallLaws as law
 use Rattle.boundary.proofs.SmallLaws.{place-small}
+use native.Mathlib.Omega.{arith}
 use borrow.Author.Needs.{needs}
 use Rattle.boundary.proofs.turfsteeple_filter.Statement.{statement}
 use Rattle.boundary.proofs.turfsteeple_filter.Tie as tie
@@ -17,7 +18,11 @@ returns : tie.Need-returns
 returns c = law.filter-short _ _ (c .before .before .before .read .ensures) _ (c .before .enum-told .given .1) (c .if1 .taken)
 
 filter-into-requires : tie.Need-filter-into-requires
-filter-into-requires c κs = search needs
+filter-into-requires c κs =
+    let e = c .before .before in
+    let r = e .before .before .before in
+    let q = law.read-year _ _ (r .read .ensures) (e .before .enum-told .given .1) in
+    (q .0, omega (arith, q .1, e .if1 .left))
 
 enum-known-a : tie.Need-enum-known-a
 enum-known-a c = search needs

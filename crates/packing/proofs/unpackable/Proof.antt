@@ -1,73 +1,121 @@
 -- The definition's three tests, the last over the arrays and without the division.
 use Prim.Native.Nat.{_+_, _*_, _/_, _≤_}
-use mathlib.Core.Path.{sym, ap, ap₂, _∙_}
+use mathlib.Core.Path.{_≡_, sym, ap, ap₂, _∙_}
 use native.Mathlib.Nat.{mul-le-mul-right}
 use native.Mathlib.Omega.{arith}
-use lib.ListN.{length}
+use lib.ListN.{length, take}
 use borrow.Author.Needs.{needs}
-use Rattle.theory.specs.Tab.{length-tab}
+use Rattle.theory.specs.Tab.{tab, length-tab}
 use Rattle.theory.specs.Tests.{any}
-use Rattle.packing.specs.Sizes.{sizeAt, usedAt, firstOf, courseSizes, termSizes, over}
-use Rattle.packing.proofs.SizeLaws.{bursting-is, empty-is, over-is, room-most}
+use Rattle.year.specs.Sums.{sumsAt}
+use Rattle.rules.specs.Step.{yearIn}
+use Rattle.rules.proofs.Holding.{sums-held, list-long}
+use Rattle.packing.specs.Sizes.{sizeIn, usedIn, over}
+use Rattle.packing.proofs.ArrayLaws.{take-first}
+use Rattle.packing.proofs.StateLaws.{room-most, bursting-is, empty-is, over-is}
 use Rattle.packing.proofs.unpackable.Statement.{statement}
 use Rattle.packing.proofs.unpackable.Tie as tie
 
+-- the arrays of a state have their sizes
+arrays : (b : tie.Start) → (b .args .s .terms ≤ 16) × (length (b .args .s .term) ≡ 16) × (length (b .args .s .sums) ≡ 16)
+arrays b =
+    let w = b .args .weight .now in
+    let s = b .args .s in
+    (b .pre .1 .0 .terms-most, b .pre .1 .0 .term-length, ap length (sums-held w s (b .pre .1 .1)) ∙ length-tab 16 (sumsAt (yearIn w s)))
+
 -- the room is a bound of the year
 small : (c : tie.After-room) → c .room .result ≤ 64000
-small c = rw (c .room .ensures) (room-most (c .before .before .before .args .y) (c .before .before .before .pre .0))
+small c = let b = c .before .before .before .before .before .before in rw (c .room .ensures) (room-most (b .args .weight .now) (b .args .s) (b .pre .1 .0))
+
+-- what is lent of the sizes: those of the courses, and those of the terms
+courses-are : (c : tie.After-course-sizes) → let a = c .before .before .before .before .before .before .before .before .before .before .args in
+    take (a .s .courses) (c .course-sizes .result) ≡ tab (a .s .courses) (sizeIn (a .weight .now) (a .s .list))
+courses-are c =
+    let b = c .before .before .before .before .before .before .before .before .before .before in
+    let s = b .args .s in
+    ap (take (s .courses)) (c .course-sizes .ensures) ∙ take-first 64 (s .courses) (sizeIn (b .args .weight .now) (s .list)) (b .pre .1 .0 .courses-most)
+
+terms-are : (c : tie.After-term-sizes) → let r = c .before .before .before .before .before in
+    let s = r .before .before .before .before .before .before .args .s in
+    take (s .terms) (c .term-sizes .result) ≡ tab (s .terms) (usedIn (s .term) (s .sums) (r .room .result))
+terms-are c =
+    let r = c .before .before .before .before .before in
+    let b = r .before .before .before .before .before .before in
+    let s = b .args .s in
+    ap (take (s .terms)) (c .term-sizes .ensures) ∙ take-first 16 (s .terms) (usedIn (s .term) (s .sums) (r .room .result)) (b .pre .1 .0 .terms-most)
+
+courses-lent : (c : tie.After-course-sizes) → let s = c .before .before .before .before .before .before .before .before .before .before .args .s in
+    length (take (s .courses) (c .course-sizes .result)) ≡ s .courses
+courses-lent c = ap length (courses-are c) ∙ length-tab _ _
+
+terms-lent : (c : tie.After-term-sizes) → let s = c .before .before .before .before .before .before .before .before .before .before .before .args .s in
+    length (take (s .terms) (c .term-sizes .result)) ≡ s .terms
+terms-lent c = ap length (terms-are c) ∙ length-tab _ _
 
 bursting-requires : tie.Need-bursting-requires
-bursting-requires c κs = search needs
+bursting-requires c κs = arrays (c .before .before .before)
 
 returns : tie.Need-returns
-returns c = bursting-is (c .before .before .args .y) (sym (c .before .bursting .ensures) ∙ c .if1 .taken)
+returns c = let b = c .before .before .before .before .before in
+    bursting-is (b .args .weight .now) (b .args .s) (b .pre .1 .1) (b .pre .1 .0) (sym (c .before .bursting .ensures) ∙ c .if1 .taken)
 
 room-requires : tie.Need-room-requires
-room-requires c κs = search needs
+room-requires c κs = let q = arrays (c .before .before .before .before .before) in (q .0, q .1)
 
 returns-2 : tie.Need-returns-2
 returns-2 c = let e = c .before .before in
-    empty-is (e .before .before .args .y) (sym (e .before .bursting .ensures) ∙ e .if1 .left) (sym (c .before .room .ensures) ∙ c .if2 .taken)
+    let b = e .before .before .before .before .before in
+    empty-is (b .args .weight .now) (b .args .s) (b .pre .1 .1) (b .pre .1 .0) (sym (e .before .bursting .ensures) ∙ e .if1 .left) (sym (c .before .room .ensures) ∙ c .if2 .taken)
+
+slice-aggregate-course-sizes : tie.Need-slice-aggregate-course-sizes
+slice-aggregate-course-sizes c = search needs
 
 course-sizes-requires : tie.Need-course-sizes-requires
-course-sizes-requires c κs = search needs
+course-sizes-requires c κs = let b = c .before .before .before .before .before .before .before .before .before in
+    let few = b .pre .1 .0 .courses-most in
+    (few, omega (arith, few, b .pre .0), omega (arith, few, list-long (b .args .weight .now) (b .args .s) (b .pre .1 .1)))
 
 term-sizes-requires : tie.Need-term-sizes-requires
-term-sizes-requires c κs = search needs
+term-sizes-requires c κs = arrays (c .before .before .before .before .before .before .before .before .before .before)
 
 cast-limit : tie.Need-cast-limit
 cast-limit c = search needs
 
 mul-limit : tie.Need-mul-limit
-mul-limit c = let r = c .before .before .before .before in
-    let b = r .before .before .before in
-    omega (arith, small r, mul-le-mul-right (r .room .result) (b .pre .0 .terms-most))
+mul-limit c = let r = c .before .before .before .before .before in
+    let b = r .before .before .before .before .before .before in
+    omega (arith, small r, mul-le-mul-right (r .room .result) (b .pre .1 .0 .terms-most))
+
+array-share-prefix-course : tie.Need-array-share-prefix-course
+array-share-prefix-course c = search needs
 
 slice-aggregate-overfull : tie.Need-slice-aggregate-overfull
-slice-aggregate-overfull c = search needs
+slice-aggregate-overfull c = sym (courses-lent (c .before .before))
+
+array-share-prefix-own : tie.Need-array-share-prefix-own
+array-share-prefix-own c = search needs
 
 slice-aggregate-overfull-2 : tie.Need-slice-aggregate-overfull-2
-slice-aggregate-overfull-2 c = search needs
+slice-aggregate-overfull-2 c = sym (terms-lent (c .before .before))
 
 overfull-requires : tie.Need-overfull-requires
 overfull-requires c κs =
-    let r = c .before .before .before .before .before .before in
-    let b = r .before .before .before in
-    let course = c .before .before .before .before .course-sizes .ensures in
-    let term = c .before .before .before .term-sizes .ensures in (
-      omega (arith, ap length course, length-tab 64 (firstOf (b .args .y .courses) (sizeAt (b .args .y)))),
-      omega (arith, ap length term, length-tab 16 (firstOf (b .args .y .terms) (usedAt (b .args .y) (r .room .result)))),
-      small r,
-    )
+    let q = c .before .before in
+    let p = q .before in
+    let r = p .before .before .before .before in
+    let b = r .before .before .before .before .before .before in
+    (omega (arith, courses-lent p, b .pre .1 .0), omega (arith, terms-lent q, b .pre .1 .0), small r)
 
 returns-3 : tie.Need-returns-3
-returns-3 c = let e = c .before .before .before .before .before .before in
+returns-3 c = let q = c .before .before .before in
+    let p = q .before in
+    let e = p .before .before .before in
     let r = e .before in
-    let y = r .before .before .before .args .y in
+    let b = r .before .before .before .before .before .before in
+    let s = b .args .s in
     c .overfull .ensures
-    ∙ ap₂ (λ a b. any (r .room .result / 2 + 1) (over a b (r .room .result) (y .terms * r .room .result))) (c .before .before .before .before .before .course-sizes .ensures) (c .before .before .before .before .term-sizes .ensures)
-    ∙ ap (λ x. any (x / 2 + 1) (over (courseSizes y) (termSizes y x) x (y .terms * x))) (r .room .ensures)
-    ∙ over-is y (sym (r .before .before .bursting .ensures) ∙ r .before .if1 .left) (r .before .before .before .pre .0) (λ z. e .if2 .left (r .room .ensures ∙ z))
+    ∙ ap₂ (λ x y. any (r .room .result / 2 + 1) (over x y (r .room .result) (s .terms * r .room .result))) (courses-are p) (terms-are q)
+    ∙ over-is (b .args .weight .now) s (b .pre .1 .1) (b .pre .1 .0) (sym (r .before .before .bursting .ensures) ∙ r .before .if1 .left) (r .room .result) (r .room .ensures) (e .if2 .left)
 
 pub unpackable-spec : {M : Type 1} → statement M
 unpackable-spec =
@@ -77,11 +125,14 @@ unpackable-spec =
     returns
     room-requires
     returns-2
+    slice-aggregate-course-sizes
     course-sizes-requires
     term-sizes-requires
     cast-limit
     mul-limit
+    array-share-prefix-course
     slice-aggregate-overfull
+    array-share-prefix-own
     slice-aggregate-overfull-2
     overfull-requires
     returns-3)

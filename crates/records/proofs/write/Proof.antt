@@ -1,14 +1,11 @@
 -- `write`: a year that passes the test is sound, so its records fit where the buffer has room for them.
-use Prim.Native.Nat.{ℕ, _*_}
 use mathlib.Core.Bool.{true}
-use mathlib.Core.List.{List}
-use mathlib.Core.Path.{_≡_, _∙_, ap, sym}
+use mathlib.Core.Path.{_≡_, _∙_, sym}
 use native.Mathlib.Omega.{arith}
 use borrow.Author.Needs.{needs}
 use borrow.Author.Tests.{not-true, not-false}
 use Rattle.year.specs.Sound.{isSound, Sound}
 use Rattle.year.proofs.SoundLaws.{sound-of}
-use Rattle.records.specs.Writing.{courseBlock, joined, laid}
 use Rattle.records.proofs.WriteLaws as law
 use Rattle.records.proofs.write.Statement.{statement}
 use Rattle.records.proofs.write.Tie as tie
@@ -34,20 +31,18 @@ mul-if2 c = omega (arith, sound (c .before))
 returns-2 : tie.Need-returns-2
 returns-2 c = law.write-short (c .before .before .before .before .before .args .y) (c .before .before .before .before .before .args .buf .now) (passes (c .before .before)) (c .if2 .taken)
 
-put-terms-requires : tie.Need-put-terms-requires
-put-terms-requires c κs = (sound (c .before .before .before), omega (arith, c .before .if2 .left))
-
-put-courses-requires : tie.Need-put-courses-requires
-put-courses-requires c κs = (sound (c .before .before .before .before .before .before .before), omega (arith, c .before .before .before .before .before .if2 .left, c .before .before .before .put-terms .kept .1 .0))
+write-sound-requires : tie.Need-write-sound-requires
+write-sound-requires c κs = (sound (c .before .before .before), c .before .if2 .left)
 
 same-length : tie.Need-same-length
 same-length c = search needs
 
 returns-3 : tie.Need-returns-3
 returns-3 c =
-    let a = c .before .before .before .before .before .before .before .before .before .before .before .before .before .args in
-    let e = law.write-done (a .y) (a .buf .now) (passes (c .before .before .before .before .before .before .before .before .before .before)) (c .before .before .before .before .before .before .before .before .if2 .left) in
-    (e .0, c .before .before .put-courses .ensures ∙ ap (λ (d : List ℕ). laid d (a .y .terms * 16) (joined (courseBlock (a .y)) (a .y .courses))) (c .before .before .before .before .before .before .put-terms .ensures) ∙ e .1)
+    let e = c .before .before .before .before in
+    let f = e .before .before in
+    let a = f .before .before .before .args in
+    (law.write-done (a .y) (a .buf .now) (passes f) (e .if2 .left), c .before .before .write-sound .ensures)
 
 pub write-spec : {M : Type 1} → statement M
 write-spec =
@@ -58,7 +53,6 @@ write-spec =
     add-if2
     mul-if2
     returns-2
-    put-terms-requires
-    put-courses-requires
+    write-sound-requires
     same-length
     returns-3)

@@ -4,7 +4,8 @@ use mathlib.Core.Path.{_≡_, sym, ap, _∙_}
 use native.Mathlib.Omega.{arith}
 use borrow.Author.Needs.{needs}
 use Rattle.theory.specs.Sum.{sum}
-use Rattle.bounds.specs.Near.{termIn, totalsTo, totalsWith}
+use Rattle.year.specs.Parts.{termIn}
+use Rattle.bounds.specs.Near.{totalsTo, totalsWith}
 use Rattle.bounds.proofs.NearLaws.{totals-more, totals-fit}
 use Rattle.bounds.proofs.near.totals.Statement.{statement}
 use Rattle.bounds.proofs.near.totals.Tie as tie
@@ -29,7 +30,7 @@ with-term-requires : tie.Need-with-term-requires Inv-loop μ-loop
 with-term-requires c κs =
     let l = c .before .before in
     let b = l .before in
-    (b .pre (l .loop .k) (c .before .loop-test .taken), totals-fit (b .args .t1) (l .loop .k) (l .loop .x) (b .pre) (c .before .loop-test .taken) (l .loop .inv .1))
+    (b .pre (l .loop .k) (c .before .loop-test .taken), totals-fit (b .args .t1) (l .loop .k) (l .loop .x) (b .pre) (l .loop .inv .0) (l .loop .inv .1))
 
 add-k : tie.Need-add-k Inv-loop μ-loop
 add-k c = search needs

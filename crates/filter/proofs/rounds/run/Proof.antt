@@ -1,135 +1,170 @@
--- After n rounds, each of which altered something, what is left to do from the year at hand gives what the whole filtering gives;
--- the measure of that year has fallen by at least one a round.
-use borrow.Author.Needs.{needs}
-use borrow.Author.Tests.{eq-eqb, ne-eqb, not-true, not-false}
-use Prim.Native.Nat.{ℕ, _+_, _≤_, _<_}
-use mathlib.Core.Bool.{true, false}
-use mathlib.Core.Path.{_≡_, refl, sym, ap, subst, _∙_}
+-- The loop's invariant is `Going`: each need is one of its laws at the values of the code.
+use Prim.Native.Nat.{ℕ}
+use mathlib.Core.List.{List}
+use mathlib.Core.Path.{_≡_, sym, ap}
 use native.Mathlib.Omega.{arith}
-use lib.Dec.{eqb}
+use lib.ListN.{length}
+use borrow.Author.Needs.{needs}
+use borrow.Author.Tests.{not-true, not-false}
+use Rattle.year.specs.Parts.{weightsOf}
+use Rattle.year.specs.declared.Columns.{Columns}
+use Rattle.year.specs.declared.Year.{Year}
+use Rattle.rules.specs.Step.{yearIn}
+use Rattle.rules.proofs.Measure.{measure}
+use Rattle.walks.proofs.OrderLaws.{weights-fit}
+use Rattle.filter.proofs.Going as go
 use Rattle.filter.proofs.rounds.run.Statement.{statement}
 use Rattle.filter.proofs.rounds.run.Tie as tie
-use Rattle.year.specs.Sound.{Sound}
-use Rattle.year.specs.declared.Year.{Year}
-use Rattle.rules.specs.Step.{live, summed}
-use Rattle.rules.specs.Round.{round}
-use Rattle.rules.specs.declared.State.{State}
-use Rattle.rules.proofs.Measure.{measure, measure-most}
-use Rattle.rules.proofs.Steps.{whole-round}
-use Rattle.bounds.specs.Given.{givenOf}
-use Rattle.filter.specs.Filter.{filtered, atRest, roundsFrom}
-use Rattle.filter.specs.declared.Answer.{Answer}
-use Rattle.filter.specs.declared.Answer.the-variants.{NoPlan}
-use Rattle.filter.proofs.RoundLaws.{left, dies, rests, goes-on, round-falls}
-use Rattle.bounds.proofs.KeptLaws.{given-weights}
 
 abbrev Inv-loop : tie.InvT-loop
-Inv-loop y g s₀ n₀ s n =
-    (roundsFrom 1025985 y y 0 ≡ roundsFrom (left n) y (s .year) n)
-    × (measure (s .year) + n ≤ 1025984)
-    × (s ≡ summed (live (s .year)))
-    × Sound (s .year)
-    × (g ≡ givenOf (s .year))
+Inv-loop y weight all o₀ s₀ n₀ o s n = go.Going y weight o s n
 
 abbrev μ-loop : tie.MeasureT-loop
-μ-loop y g s₀ n₀ s n = measure (s .year)
+μ-loop y weight all o₀ s₀ n₀ o s n = measure (yearIn weight s)
 
--- ---- after a round
+-- ---- the values of the code
 
-module _ (c : tie.After-one-round Inv-loop μ-loop) where
-  abbrev z : Year
-  z = c .before .loop .s .year
+abbrev before : tie.At-loop Inv-loop μ-loop → tie.After-apart Inv-loop μ-loop
+before l = l .before .before .before .before
 
-  abbrev y : Year
-  y = c .before .before .before .before .args .y
+abbrev y : tie.At-loop Inv-loop μ-loop → Year
+y l = before l .before .args .y
 
-  abbrev n : ℕ
-  n = c .before .loop .n
+abbrev w : tie.At-loop Inv-loop μ-loop → List ℕ
+w l = before l .apart .result .weight
 
-  few : n ≤ 1025984
-  few = omega (arith, c .before .loop .inv .1)
+own : (l : tie.At-loop Inv-loop μ-loop) → w l ≡ weightsOf (y l)
+own l = ap (λ (q : Columns). q .weight) (before l .apart .ensures)
 
-  year-is : c .one-round .result .year ≡ round z .year
-  year-is = ap (λ (q : State). q .year) (c .one-round .ensures)
-
-  rule-is : c .one-round .result .rule ≡ round z .rule
-  rule-is = ap (λ (q : State). q .rule) (c .one-round .ensures)
-
-  altered-is : c .one-round .result .altered ≡ round z .altered
-  altered-is = ap (λ (q : State). q .altered) (c .one-round .ensures)
-
-  sound-next : Sound (c .one-round .result .year)
-  sound-next = subst Sound (sym year-is) (whole-round z (c .before .loop .inv .3) .sound)
+long : (l : tie.At-loop Inv-loop μ-loop) → length (w l) ≡ 64
+long l = go.long (y l) (w l) (before l .before .pre) (own l)
 
 -- ---- the needs
 
-given-of-requires : tie.Need-given-of-requires Inv-loop μ-loop
-given-of-requires c κs = search needs
+apart-requires : tie.Need-apart-requires Inv-loop μ-loop
+apart-requires c κs = search needs
+
+all-credits-requires : tie.Need-all-credits-requires Inv-loop μ-loop
+all-credits-requires c κs = search needs
 
 start-requires : tie.Need-start-requires Inv-loop μ-loop
 start-requires c κs = search needs
 
 loop-holds : tie.Need-loop-holds Inv-loop μ-loop
 loop-holds c =
-    let b = c .before .before in
-    let is : b .args .y ≡ c .start .result .year = sym (ap (λ (q : State). q .year) (c .start .ensures)) in
-    let sound : Sound (c .start .result .year) = subst Sound is (b .pre) in (
-      ap (λ (x : Year). roundsFrom 1025985 (b .args .y) x 0) is,
-      omega (arith, measure-most (c .start .result .year) sound),
-      c .start .ensures ∙ ap (λ (x : Year). summed (live x)) is,
-      sound,
-      c .before .given-of .ensures ∙ ap givenOf is,
+    let a = c .before .before .before in
+    go.going-start (a .before .args .y) (a .apart .result .weight) (a .before .pre) (ap (λ (q : Columns). q .weight) (a .apart .ensures)) _ (c .start .result) (c .start .ensures)
+
+slice-aggregate-first-half : tie.Need-slice-aggregate-first-half Inv-loop μ-loop
+slice-aggregate-first-half c = sym (long (c .before))
+
+first-half-requires : tie.Need-first-half-requires Inv-loop μ-loop
+first-half-requires c κs =
+    let l = c .before in
+    let g = l .loop .inv in
+    let sound = before l .before .pre in (
+      long l,
+      (g .same .sound, (g .is, go.credits (y l) (w l) sound (own l) (l .loop .o) (l .loop .s) (l .loop .n) g _ (l .before .before .all-credits .ensures))),
     )
 
-one-round-requires : tie.Need-one-round-requires Inv-loop μ-loop
-one-round-requires c κs = (c .loop .inv .3, (c .loop .inv .2, c .loop .inv .4))
-
 add-n : tie.Need-add-n Inv-loop μ-loop
-add-n c = omega (arith, few c)
+add-n c =
+    let l = c .before .before in
+    omega (arith, l .loop .inv .few)
+
+no-plan-requires : tie.Need-no-plan-requires Inv-loop μ-loop
+no-plan-requires c κs = search needs
 
 returns : tie.Need-returns Inv-loop μ-loop
 returns c =
-    let r = c .before .before in
-    let d : eqb (round (z r) .rule) 0 ≡ false = ne-eqb (round (z r) .rule) 0 (λ e. c .if1 .taken (rule-is r ∙ e)) in
-    ap (λ (k : ℕ). filtered (NoPlan k (n r + 1)) (y r)) (rule-is r) ∙ sym (dies (y r) (z r) (n r) (few r) d) ∙ sym (r .before .loop .inv .0)
+    let h = c .before .before .before in
+    let l = h .before .before in
+    go.first-ended (y l) (w l) (before l .before .pre) (own l) (l .loop .o) (l .loop .s) (l .loop .n) (l .loop .inv) (h .first-half .result) (h .first-half .ensures)
+    (c .before .if1 .taken) (c .no-plan .result) (c .no-plan .ensures)
 
-at-rest-requires : tie.Need-at-rest-requires Inv-loop μ-loop
-at-rest-requires c κs = sound-next (c .before .before .before .before .before)
+slice-aggregate-orders-by : tie.Need-slice-aggregate-orders-by Inv-loop μ-loop
+slice-aggregate-orders-by c = sym (long (c .before .before .before .before .before))
+
+orders-by-requires : tie.Need-orders-by-requires Inv-loop μ-loop
+orders-by-requires c κs =
+    let l = c .before .before .before .before .before in
+    let f = weights-fit (y l) (w l) (before l .before .pre) (own l) in
+    (f .0, (f .1, l .loop .inv .orders))
+
+slice-aggregate-second-half : tie.Need-slice-aggregate-second-half Inv-loop μ-loop
+slice-aggregate-second-half c = sym (long (c .before .before .before .before .before .before .before))
+
+second-half-requires : tie.Need-second-half-requires Inv-loop μ-loop
+second-half-requires c κs =
+    let h = c .before .before .before .before .before in
+    let l = h .before .before in
+    let sound = before l .before .pre in
+    let r = h .first-half .result in
+    let e = h .first-half .ensures in (
+      long l,
+      (
+        go.first-sound (y l) (w l) sound (own l) (l .loop .o) (l .loop .s) (l .loop .n) (l .loop .inv) r e,
+        (
+          go.first-self (y l) (w l) sound (own l) (l .loop .o) (l .loop .s) (l .loop .n) (l .loop .inv) r e,
+          go.first-orders (y l) (w l) sound (own l) (l .loop .o) (l .loop .s) (l .loop .n) (l .loop .inv) r e (c .before .orders-by .result) (c .before .orders-by .ensures),
+        ),
+      ),
+    )
+
+no-plan-requires-2 : tie.Need-no-plan-requires-2 Inv-loop μ-loop
+no-plan-requires-2 c κs = search needs
 
 returns-2 : tie.Need-returns-2 Inv-loop μ-loop
 returns-2 c =
-    let r = c .before .before .before .before .before .before in
-    let d : eqb (round (z r) .rule) 0 ≡ true = eq-eqb (round (z r) .rule) 0 (sym (rule-is r) ∙ c .before .before .before .before .if1 .left) in
-    let a : round (z r) .altered ≡ false = sym (altered-is r) ∙ not-true _ (c .before .if2 .taken) in
-    ap (λ (k : Answer). filtered k (r .one-round .result .year)) (c .at-rest .ensures)
-    ∙ ap (λ (x : Year). filtered (atRest x (n r + 1)) x) (year-is r)
-    ∙ sym (rests (y r) (z r) (n r) (few r) d a)
-    ∙ sym (r .before .loop .inv .0)
+    let k = c .before .before .before in
+    let h = k .before .before .before .before .before .before in
+    let l = h .before .before in
+    go.second-ended (y l) (w l) (before l .before .pre) (own l) (l .loop .o) (l .loop .s) (l .loop .n) (l .loop .inv) (h .first-half .result) (h .first-half .ensures)
+    (k .second-half .result) (k .second-half .ensures) (c .before .if2 .taken) (c .no-plan2 .result) (c .no-plan2 .ensures)
+
+slice-aggregate-rested : tie.Need-slice-aggregate-rested Inv-loop μ-loop
+slice-aggregate-rested c = sym (long (c .before .before .before .before .before .before .before .before .before .before .before .before .before))
+
+rested-requires : tie.Need-rested-requires Inv-loop μ-loop
+rested-requires c κs =
+    let k = c .before .before .before .before .before in
+    let h = k .before .before .before .before .before .before in
+    let l = h .before .before in
+    let sound = before l .before .pre in
+    let r = k .second-half .result in
+    let e = k .second-half .ensures in (
+      long l,
+      (
+        go.second-sound (y l) (w l) sound (own l) (l .loop .o) (l .loop .s) (l .loop .n) (l .loop .inv) (h .first-half .result) (h .first-half .ensures) r e,
+        go.second-self (y l) (w l) sound (own l) (l .loop .o) (l .loop .s) (l .loop .n) (l .loop .inv) (h .first-half .result) (h .first-half .ensures) r e,
+      ),
+    )
+
+returns-3 : tie.Need-returns-3 Inv-loop μ-loop
+returns-3 c =
+    let t = c .before .before in
+    let k = t .before .before .before .before in
+    let h = k .before .before .before .before .before .before in
+    let l = h .before .before in
+    go.second-rests (y l) (w l) (before l .before .pre) (own l) (l .loop .o) (l .loop .s) (l .loop .n) (l .loop .inv) (h .first-half .result) (h .first-half .ensures)
+    (k .second-half .result) (k .second-half .ensures) (t .before .before .if2 .left) (not-true _ (t .if3 .taken)) (c .rested .result) (c .rested .ensures)
 
 loop-less : tie.Need-loop-less Inv-loop μ-loop
 loop-less c =
-    let r = c .before .before .before .before .before in
-    let a : round (z r) .altered ≡ true = sym (altered-is r) ∙ not-false _ (c .if2 .left) in
-    subst (λ (x : Year). measure x < measure (z r)) (sym (year-is r)) (round-falls (z r) (r .before .loop .inv .3) a)
+    let k = c .before .before .before .before in
+    let h = k .before .before .before .before .before .before in
+    let l = h .before .before in
+    go.second-falls (y l) (w l) (before l .before .pre) (own l) (l .loop .o) (l .loop .s) (l .loop .n) (l .loop .inv) (h .first-half .result) (h .first-half .ensures)
+    (k .second-half .result) (k .second-half .ensures) (not-false _ (c .if3 .left))
 
 loop-again : tie.Need-loop-again Inv-loop μ-loop
 loop-again c =
-    let r = c .before .before .before .before .before in
-    let d : eqb (round (z r) .rule) 0 ≡ true = eq-eqb (round (z r) .rule) 0 (sym (rule-is r) ∙ c .before .before .before .if1 .left) in
-    let a : round (z r) .altered ≡ true = sym (altered-is r) ∙ not-false _ (c .if2 .left) in
-    let w = whole-round (z r) (r .before .loop .inv .3) in
-    let falls = subst (λ (x : Year). measure x < measure (z r)) (sym (year-is r)) (round-falls (z r) (r .before .loop .inv .3) a) in (
-      r .before .loop .inv .0 ∙ goes-on (y r) (z r) (n r) (few r) d a ∙ ap (λ (x : Year). roundsFrom (left (n r + 1)) (y r) x (n r + 1)) (sym (year-is r)),
-      omega (arith, r .before .loop .inv .1),
-      λ i. record {
-        year = r .one-round .result .year;
-        sums = (ap (λ (q : State). q .sums) (r .one-round .ensures) ∙ ap (λ (x : Year). summed (live x) .sums) (sym (year-is r))) i;
-        altered = false;
-        rule = c .before .before .before .if1 .left i;
-      },
-      sound-next r,
-      r .before .loop .inv .4 ∙ sym (given-weights (z r) (round (z r) .year) (w .courses-same) (w .weight-same)) ∙ ap givenOf (sym (year-is r)),
-    )
+    let k = c .before .before .before .before in
+    let b = k .before .before in
+    let h = b .before .before .before .before in
+    let l = h .before .before in
+    go.second-again (y l) (w l) (before l .before .pre) (own l) (l .loop .o) (l .loop .s) (l .loop .n) (l .loop .inv) (h .first-half .result) (h .first-half .ensures)
+    (k .second-half .result) (k .second-half .ensures) (c .before .before .if2 .left) (not-false _ (c .if3 .left)) (b .orders-by .result) (b .orders-by .ensures)
 
 pub run-spec : {M : Type 1} → statement M
 run-spec =
@@ -137,13 +172,23 @@ run-spec =
     (tie.spec
     Inv-loop
     μ-loop
-    given-of-requires
+    apart-requires
+    all-credits-requires
     start-requires
     loop-holds
-    one-round-requires
+    slice-aggregate-first-half
+    first-half-requires
     add-n
+    no-plan-requires
     returns
-    at-rest-requires
+    slice-aggregate-orders-by
+    orders-by-requires
+    slice-aggregate-second-half
+    second-half-requires
+    no-plan-requires-2
     returns-2
+    slice-aggregate-rested
+    rested-requires
+    returns-3
     loop-less
     loop-again)

@@ -1,27 +1,37 @@
--- The loop's invariant: the year after the first i courses, with p and P as they are read anew from it.
-use Prim.Native.Nat.{_≤_, _-_}
+-- The loop's invariant: the lists after the first i courses, with p and P as they are read anew from the year with those lists.
+use Prim.Native.Nat.{_≤_, _<_, _-_}
 use mathlib.Core.Logic.{⊎-elim}
 use mathlib.Core.Path.{_≡_, refl, sym, ap, _∙_}
 use native.Mathlib.Omega.{arith}
 use borrow.Author.Needs.{needs}
 use Rattle.year.specs.Sums.{sumsAt, fixedCredits, openCredits}
 use Rattle.year.specs.declared.Sums.{Sums}
-use Rattle.rules.specs.Step.{overTo}
+use Rattle.year.proofs.SumLaws.{sums-read}
+use Rattle.year.proofs.PartLaws.{course-in}
+use Rattle.rules.specs.Step.{overTo, yearIn}
+use Rattle.rules.specs.declared.State.{State}
+use Rattle.rules.proofs.Holding.{sums-held, list-long}
 use Rattle.lists.proofs.CourseLaws.{kept-is, keptTo, Turn, turn-at}
 use Rattle.lists.proofs.courses.each_course.Statement.{statement}
 use Rattle.lists.proofs.courses.each_course.Tie as tie
 
 abbrev Inv-loop : tie.InvT-loop
-Inv-loop j w y t k₀ i₀ i-end k i = (i ≤ y .courses) × (k ≡ keptTo w y j i)
+Inv-loop weight j w s t list k₀ i₀ k i = (i ≤ s .courses) × (k ≡ keptTo w (yearIn weight s) j i)
 
 abbrev μ-loop : tie.MeasureT-loop
-μ-loop j w y t k₀ i₀ i-end k i = y .courses - i
+μ-loop weight j w s t list k₀ i₀ k i = s .courses - i
 
 -- what a turn finds
-at : (c : tie.In-loop Inv-loop μ-loop) → let b = c .before .before .before in Turn (b .args .w) (b .args .t1) (b .args .j) (c .before .loop .i) (c .before .loop .k)
+at : (c : tie.After-course Inv-loop μ-loop) → let l = c .before .before .before in
+    let a = l .before .before .before .before .before .args in
+    Turn (a .w) (yearIn (a .weight .now) (a .t1)) (a .j) (l .loop .i) (l .loop .k) (c .course .result)
 at c =
-    let b = c .before .before .before in
-    turn-at (b .args .w) (b .args .t1) (b .args .j) (c .before .loop .i) (c .before .loop .k) (b .pre .0) (b .pre .1 .0) (c .loop-test .taken) (c .before .loop .inv .1)
+    let i = c .before .before in
+    let l = i .before in
+    let b = l .before .before .before .before .before in
+    let a = b .args in
+    turn-at (a .w) (yearIn (a .weight .now) (a .t1)) (a .j) (l .loop .i) (l .loop .k) (c .course .result) (b .pre .1 .0) (b .pre .0 .1) (i .loop-test .taken) (l .loop .inv .1)
+    (c .course .ensures ∙ sym (course-in (a .weight .now) (a .t1 .list) (l .loop .i) (omega (arith, b .pre .1 .0))))
 
 mul-t : tie.Need-mul-t Inv-loop μ-loop
 mul-t c = search needs
@@ -29,31 +39,66 @@ mul-t c = search needs
 element-copy-out-t : tie.Need-element-copy-out-t Inv-loop μ-loop
 element-copy-out-t c = search needs
 
+mul-u : tie.Need-mul-u Inv-loop μ-loop
+mul-u c = search needs
+
+element-copy-out-u : tie.Need-element-copy-out-u Inv-loop μ-loop
+element-copy-out-u c = search needs
+
 loop-holds : tie.Need-loop-holds Inv-loop μ-loop
 unfolding overTo sumsAt fixedCredits openCredits
-loop-holds c = let b = c .before in
-    (search needs, kept-is _ (b .args .t1) _ (b .args .j) refl (ap (λ (z : Sums). z .fixed .0) (b .pre .1 .1)) (ap (λ (z : Sums). z .possible .0) (b .pre .1 .1)) refl)
+loop-holds c = let b = c .before .before .before .before in
+    let a = b .args in
+    let y = yearIn (a .weight .now) (a .t1) in
+    let u = sums-read y (a .t1 .sums) (sums-held (a .weight .now) (a .t1) (b .pre .1 .1)) (a .j) (omega (arith, b .pre .1 .0)) in
+    (search needs, kept-is _ y _ (a .j) (ap (λ (z : State). z .list) (b .pre .1 .1)) (ap (λ (z : Sums). z .fixed .0) u) (ap (λ (z : Sums). z .possible .0) u) refl)
 
-mul-c : tie.Need-mul-c Inv-loop μ-loop
-mul-c c = search needs
+slice-aggregate-course : tie.Need-slice-aggregate-course Inv-loop μ-loop
+slice-aggregate-course c = search needs
 
-element-copy-out-c : tie.Need-element-copy-out-c Inv-loop μ-loop
-element-copy-out-c c = search needs
+course-requires : tie.Need-course-requires Inv-loop μ-loop
+course-requires c κs = let b = c .before .before .before .before .before .before .before in
+    let a = b .args in
+    let i : c .before .before .loop .i < 64 = omega (arith, b .pre .1 .0) in
+    (omega (arith, b .pre .0 .0), omega (arith, list-long (a .weight .now) (a .t1) (b .pre .1 .1)))
 
 verdict-of-requires : tie.Need-verdict-of-requires Inv-loop μ-loop
-verdict-of-requires c κs = (search needs, omega (arith, at (c .before) .p-small))
+verdict-of-requires c κs = (omega (arith, c .before .before .before .before .before .before .before .before .pre .1 .0), omega (arith, at c .p-small))
 
 enum-told : tie.Need-enum-told Inv-loop μ-loop
 enum-told c = search needs
 
-strike-requires : tie.Need-strike-requires Inv-loop μ-loop
-strike-requires c κs = at (c .before .before .before .before) .strikes (sym (c .before .before .verdict-of .ensures) ∙ c .enum-told .given .1) .0
+power-requires : tie.Need-power-requires Inv-loop μ-loop
+power-requires c κs = search needs
+
+sub-k : tie.Need-sub-k Inv-loop μ-loop
+sub-k c = let q = c .before .before .before .before in
+    omega (arith, c .before .power .ensures, at (q .before) .is-listed (sym (q .verdict-of .ensures) ∙ c .before .before .enum-told .given .1))
+
+mul-k : tie.Need-mul-k Inv-loop μ-loop
+mul-k c = search needs
+
+element-write-k : tie.Need-element-write-k Inv-loop μ-loop
+element-write-k c = search needs
+
+sub-k-2 : tie.Need-sub-k-2 Inv-loop μ-loop
+sub-k-2 c = let q = c .before .before .before .before in
+    omega (arith, at (q .before) .is-possible (sym (q .verdict-of .ensures) ∙ c .before .before .enum-told .given .1))
 
 enum-told-2 : tie.Need-enum-told-2 Inv-loop μ-loop
 enum-told-2 c = search needs
 
-fix-requires : tie.Need-fix-requires Inv-loop μ-loop
-fix-requires c κs = at (c .before .before .before .before) .fixes (sym (c .before .before .verdict-of .ensures) ∙ c .enum-told2 .given .1) .0
+power-requires-2 : tie.Need-power-requires-2 Inv-loop μ-loop
+power-requires-2 c κs = search needs
+
+mul-k-2 : tie.Need-mul-k-2 Inv-loop μ-loop
+mul-k-2 c = search needs
+
+element-write-k-2 : tie.Need-element-write-k-2 Inv-loop μ-loop
+element-write-k-2 c = search needs
+
+add-k : tie.Need-add-k Inv-loop μ-loop
+add-k c = omega (arith, at (c .before .before .before .before) .p-small)
 
 enum-told-3 : tie.Need-enum-told-3 Inv-loop μ-loop
 enum-told-3 c = search needs
@@ -65,21 +110,23 @@ loop-less : tie.Need-loop-less Inv-loop μ-loop
 loop-less c = search needs
 
 loop-again : tie.Need-loop-again Inv-loop μ-loop
-loop-again c = let t = at (c .before .before .before) in
-    let is = sym (c .before .verdict-of .ensures) in (
+loop-again c = let v = c .before in
+    let t = at (v .before) in
+    let is = sym (v .verdict-of .ensures) in (
       search needs,
       ⊎-elim
-          (λ q. q .3 ∙ q .2 .ensures ∙ t .strikes (is ∙ q .1 .given .1) .1)
+          (λ q. q .4 ∙ t .strikes (is ∙ q .1 .given .1) _ (q .2 .ensures))
           (⊎-elim
-          (λ q. q .3 ∙ q .2 .ensures ∙ t .fixes (is ∙ q .1 .given .1) .1)
+          (λ q. q .3 ∙ t .fixes (is ∙ q .1 .given .1) _ (q .2 .ensures))
           (λ q. q .2 ∙ t .stays (is ∙ q .1 .given .1)))
           (c .match .came),
     )
 
 returns : tie.Need-returns Inv-loop μ-loop
-returns c = let b = c .before .before .before in
-    let is : c .before .loop .i ≡ b .args .t1 .courses = omega arith in
-    c .before .loop .inv .1 ∙ ap (keptTo (b .args .w) (b .args .t1) (b .args .j)) is
+returns c = let l = c .before in
+    let a = l .before .before .before .before .before .args in
+    let is : l .loop .i ≡ a .t1 .courses = omega arith in
+    l .loop .inv .1 ∙ ap (keptTo (a .w) (yearIn (a .weight .now) (a .t1)) (a .j)) is
 
 pub each-course-spec : {M : Type 1} → statement M
 each-course-spec =
@@ -89,14 +136,23 @@ each-course-spec =
     μ-loop
     mul-t
     element-copy-out-t
+    mul-u
+    element-copy-out-u
     loop-holds
-    mul-c
-    element-copy-out-c
+    slice-aggregate-course
+    course-requires
     verdict-of-requires
     enum-told
-    strike-requires
+    power-requires
+    sub-k
+    mul-k
+    element-write-k
+    sub-k-2
     enum-told-2
-    fix-requires
+    power-requires-2
+    mul-k-2
+    element-write-k-2
+    add-k
     enum-told-3
     add-i
     loop-less

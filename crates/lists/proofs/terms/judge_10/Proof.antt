@@ -10,10 +10,10 @@ returns : tie.Need-returns
 returns c = rw (c .if1 .taken)
 
 returns-2 : tie.Need-returns-2
-returns-2 c = rw (c .before .before .before .before .if1 .left, c .if2 .taken)
+returns-2 c = rw (c .before .before .before .before .before .if1 .left, c .if2 .taken)
 
 returns-3 : tie.Need-returns-3
-returns-3 c = rw (c .before .before .before .before .if1 .left, c .if2 .left)
+returns-3 c = rw (c .before .before .before .before .before .if1 .left, c .if2 .left)
 
 pub judge-10-spec : {M : Type 1} → statement M
 judge-10-spec = tie.close (tie.spec add-listed returns returns-2 returns-3)

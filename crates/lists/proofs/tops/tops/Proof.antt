@@ -1,30 +1,28 @@
 -- The loop's invariant: the heaviest open courses among the first i.
 use Prim.Native.Nat.{_≤_, _-_}
-use mathlib.Core.Path.{_≡_, refl, ap, _∙_}
+use mathlib.Core.Path.{_≡_, refl, sym, ap, ap₂, _∙_}
 use native.Mathlib.Omega.{arith}
 use borrow.Author.Needs.{needs}
 use Rattle.theory.specs.Tab.{tab}
-use Rattle.year.specs.Year.{courseAt}
+use Rattle.year.specs.Parts.{coursesOf}
+use Rattle.year.proofs.PartLaws.{course-in}
 use Rattle.lists.specs.Tops.{topTo, topWith}
 use Rattle.lists.proofs.TopLaws.{tops-more}
 use Rattle.lists.proofs.tops.tops.Statement.{statement}
 use Rattle.lists.proofs.tops.tops.Tie as tie
 
 abbrev Inv-loop : tie.InvT-loop
-Inv-loop y top₀ i₀ i-end top i = (i ≤ y .courses) × (top ≡ tab 16 (topTo y i))
+Inv-loop weight list n top₀ i₀ top i = (i ≤ n) × (top ≡ tab 16 (topTo (coursesOf weight list) i))
 
 abbrev μ-loop : tie.MeasureT-loop
-μ-loop y top₀ i₀ i-end top i = y .courses - i
+μ-loop weight list n top₀ i₀ top i = n - i
 
 loop-holds : tie.Need-loop-holds Inv-loop μ-loop
 unfolding tab topTo
 loop-holds c = (search needs, refl)
 
-mul-with-course : tie.Need-mul-with-course Inv-loop μ-loop
-mul-with-course c = search needs
-
-element-copy-out-with-course : tie.Need-element-copy-out-with-course Inv-loop μ-loop
-element-copy-out-with-course c = search needs
+course-requires : tie.Need-course-requires Inv-loop μ-loop
+course-requires c κs = search needs
 
 with-course-requires : tie.Need-with-course-requires Inv-loop μ-loop
 with-course-requires c κs = search needs
@@ -36,14 +34,17 @@ loop-less : tie.Need-loop-less Inv-loop μ-loop
 loop-less c = search needs
 
 loop-again : tie.Need-loop-again Inv-loop μ-loop
-loop-again c = let l = c .before .before .before in
-    let y = l .before .args .t1 in
-    (search needs, c .with-course .ensures ∙ ap (λ t. tab 16 (topWith t (courseAt y (l .loop .i)))) (l .loop .inv .1) ∙ tops-more y (l .loop .i))
+loop-again c = let q = c .before in
+    let l = q .before .before in
+    let a = l .before .before .before .args in
+    let read = q .course .ensures ∙ sym (course-in (a .weight .now) (a .list .now) (l .loop .i) (omega arith)) in
+    (search needs, c .with-course .ensures ∙ ap₂ (λ t x. tab 16 (topWith t x)) (l .loop .inv .1) read ∙ tops-more (coursesOf (a .weight .now) (a .list .now)) (l .loop .i))
 
 returns : tie.Need-returns Inv-loop μ-loop
-returns c = let y = c .before .before .args .t1 in
-    let is : c .before .loop .i ≡ y .courses = omega arith in
-    c .before .loop .inv .1 ∙ ap (λ n. tab 16 (topTo y n)) is
+returns c = let l = c .before in
+    let a = l .before .before .before .args in
+    let is : l .loop .i ≡ a .n = omega arith in
+    l .loop .inv .1 ∙ ap (λ n. tab 16 (topTo (coursesOf (a .weight .now) (a .list .now)) n)) is
 
 pub tops-spec : {M : Type 1} → statement M
 tops-spec =
@@ -52,8 +53,7 @@ tops-spec =
     Inv-loop
     μ-loop
     loop-holds
-    mul-with-course
-    element-copy-out-with-course
+    course-requires
     with-course-requires
     add-i
     loop-less

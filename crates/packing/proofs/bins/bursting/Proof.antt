@@ -1,22 +1,19 @@
 -- The loop's invariant: the flag says whether one of the first k terms is over its high credits.
 use Prim.Native.Nat.{_≤_, _-_}
 use mathlib.Core.Bool.{_||_}
-use mathlib.Core.Path.{_≡_, sym, ap, ap₂, _∙_}
+use mathlib.Core.Path.{_≡_, sym, ap, _∙_}
 use native.Mathlib.Omega.{arith}
-use lib.Dec.{ltb}
 use borrow.Author.Needs.{needs}
 use Rattle.theory.specs.Tests.{any, any-more}
-use Rattle.year.specs.Year.{highCredits}
-use Rattle.year.proofs.SumLaws.{fixed-read}
-use Rattle.rules.specs.Packing.{burst}
+use Rattle.packing.specs.Bins.{burstIn}
 use Rattle.packing.proofs.bins.bursting.Statement.{statement}
 use Rattle.packing.proofs.bins.bursting.Tie as tie
 
 abbrev Inv-loop : tie.InvT-loop
-Inv-loop y s found₀ k₀ k-end found k = (k ≤ y .terms) × (found ≡ any k (burst y))
+Inv-loop m term s found₀ k₀ found k = (k ≤ m) × (found ≡ any k (burstIn term s))
 
 abbrev μ-loop : tie.MeasureT-loop
-μ-loop y s found₀ k₀ k-end found k = y .terms - k
+μ-loop m term s found₀ k₀ found k = m - k
 
 loop-holds : tie.Need-loop-holds Inv-loop μ-loop
 unfolding any
@@ -41,15 +38,14 @@ loop-less : tie.Need-loop-less Inv-loop μ-loop
 loop-less c = search needs
 
 loop-again : tie.Need-loop-again Inv-loop μ-loop
-loop-again c = let b = c .before .before in
+loop-again c = let a = c .before .before .args in
     let k = c .before .loop .k in
-    let p = fixed-read (b .args .t1) (b .args .t2) (b .pre .1) k (omega (arith, b .pre .0)) in
-    (search needs, ap₂ (λ f x. f || ltb (highCredits (b .args .t1) k) x) (c .before .loop .inv .1) p ∙ sym (any-more k (burst (b .args .t1))))
+    (search needs, ap (λ f. f || burstIn (a .t1) (a .t3) k) (c .before .loop .inv .1) ∙ sym (any-more k (burstIn (a .t1) (a .t3))))
 
 returns : tie.Need-returns Inv-loop μ-loop
-returns c = let b = c .before .before in
-    let is : c .before .loop .k ≡ b .args .t1 .terms = omega arith in
-    c .before .loop .inv .1 ∙ ap (λ n. any n (burst (b .args .t1))) is
+returns c = let a = c .before .before .args in
+    let is : c .before .loop .k ≡ a .m = omega arith in
+    c .before .loop .inv .1 ∙ ap (λ n. any n (burstIn (a .t1) (a .t3))) is
 
 pub bursting-spec : {M : Type 1} → statement M
 bursting-spec =

@@ -4,17 +4,17 @@ use mathlib.Core.Logic.{⊎-elim}
 use mathlib.Core.Path.{_≡_, ap, _∙_}
 use native.Mathlib.Omega.{arith}
 use borrow.Author.Needs.{needs}
-use Rattle.year.specs.Year.{highCredits}
 use Rattle.year.specs.Imbalance.{largest}
 use Rattle.year.proofs.SpreadLaws.{largest-more}
+use Rattle.year.specs.Parts.{highIn}
 use Rattle.packing.proofs.bins.room.Statement.{statement}
 use Rattle.packing.proofs.bins.room.Tie as tie
 
 abbrev Inv-loop : tie.InvT-loop
-Inv-loop y most₀ k₀ k-end most k = (k ≤ y .terms) × (most ≡ largest k (highCredits y))
+Inv-loop m term most₀ k₀ most k = (k ≤ m) × (most ≡ largest k (highIn term))
 
 abbrev μ-loop : tie.MeasureT-loop
-μ-loop y most₀ k₀ k-end most k = y .terms - k
+μ-loop m term most₀ k₀ most k = m - k
 
 element-copy-out-most : tie.Need-element-copy-out-most Inv-loop μ-loop
 element-copy-out-most c = search needs
@@ -37,13 +37,13 @@ loop-less c = search needs
 
 loop-again : tie.Need-loop-again Inv-loop μ-loop
 loop-again c =
-    let more = largest-more (c .before .before .loop .k) (highCredits (c .before .before .before .args .t1)) in
+    let more = largest-more (c .before .before .loop .k) (highIn (c .before .before .before .args .t1)) in
     (search needs, ⊎-elim (λ w. omega arith) (λ w. omega arith) (c .if1 .came))
 
 returns : tie.Need-returns Inv-loop μ-loop
-returns c = let b = c .before .before in
-    let is : c .before .loop .k ≡ b .args .t1 .terms = omega arith in
-    c .before .loop .inv .1 ∙ ap (λ n. largest n (highCredits (b .args .t1))) is
+returns c = let a = c .before .before .args in
+    let is : c .before .loop .k ≡ a .m = omega arith in
+    c .before .loop .inv .1 ∙ ap (λ n. largest n (highIn (a .t1))) is
 
 pub room-spec : {M : Type 1} → statement M
 room-spec =

@@ -5,26 +5,23 @@ use native.Mathlib.Omega.{arith}
 use lib.ListN.{replicate, set}
 use borrow.Author.Needs.{needs}
 use Rattle.theory.specs.Tab.{fill, fill-more}
-use Rattle.packing.specs.Sizes.{sizeAt}
-use Rattle.packing.proofs.ArrayLaws.{fill-first}
+use Rattle.packing.specs.Sizes.{sizeOf, sizeIn, firstOf}
+use Rattle.packing.proofs.ArrayLaws.{first-is, fill-first}
 use Rattle.packing.proofs.sizes.course_sizes.Statement.{statement}
 use Rattle.packing.proofs.sizes.course_sizes.Tie as tie
 
 abbrev Inv-loop : tie.InvT-loop
-Inv-loop y r₀ i₀ i-end r i = (i ≤ y .courses) × (r ≡ fill (sizeAt y) r₀ i)
+Inv-loop weight list n r₀ i₀ r i = (i ≤ n) × (r ≡ fill (firstOf n (sizeIn weight list)) r₀ i)
 
 abbrev μ-loop : tie.MeasureT-loop
-μ-loop y r₀ i₀ i-end r i = y .courses - i
+μ-loop weight list n r₀ i₀ r i = n - i
 
 loop-holds : tie.Need-loop-holds Inv-loop μ-loop
 unfolding fill
 loop-holds c = search needs
 
-mul-course-size : tie.Need-mul-course-size Inv-loop μ-loop
-mul-course-size c = search needs
-
-element-copy-out-course-size : tie.Need-element-copy-out-course-size Inv-loop μ-loop
-element-copy-out-course-size c = search needs
+course-requires : tie.Need-course-requires Inv-loop μ-loop
+course-requires c κs = search needs
 
 course-size-requires : tie.Need-course-size-requires Inv-loop μ-loop
 course-size-requires c κs = search needs
@@ -44,14 +41,19 @@ loop-less c = search needs
 loop-again : tie.Need-loop-again Inv-loop μ-loop
 loop-again c =
     let l = c .before .before .before in
-    let b = l .before in
-    (search needs, ap₂ (λ r v. set r (l .loop .i) v) (l .loop .inv .1) (c .course-size .ensures) ∙ sym (fill-more (sizeAt (b .args .t1)) (replicate 64 0) (l .loop .i)))
+    let a = l .before .before .before .args in
+    let i = l .loop .i in
+    let f = sizeIn (a .weight .now) (a .list .now) in
+    let size = c .course-size .ensures ∙ ap sizeOf (c .before .course .ensures) ∙ first-is (a .n) i f (c .before .before .loop-test .taken) in
+    (search needs, ap₂ (λ r v. set r i v) (l .loop .inv .1) size ∙ sym (fill-more (firstOf (a .n) f) (replicate 64 0) i))
 
 returns : tie.Need-returns Inv-loop μ-loop
 returns c =
-    let b = c .before .before in
-    let is : c .before .loop .i ≡ b .args .t1 .courses = omega arith in
-    c .before .loop .inv .1 ∙ ap (fill (sizeAt (b .args .t1)) (replicate 64 0)) is ∙ fill-first (sizeAt (b .args .t1)) 64 (b .args .t1 .courses) (b .pre .courses-most)
+    let b = c .before .before .before .before in
+    let a = b .args in
+    let is : c .before .loop .i ≡ a .n = omega arith in
+    let f = sizeIn (a .weight .now) (a .list .now) in
+    c .before .loop .inv .1 ∙ ap (fill (firstOf (a .n) f) (replicate 64 0)) is ∙ fill-first 64 (a .n) f (b .pre .0)
 
 pub course-sizes-spec : {M : Type 1} → statement M
 course-sizes-spec =
@@ -60,8 +62,7 @@ course-sizes-spec =
     Inv-loop
     μ-loop
     loop-holds
-    mul-course-size
-    element-copy-out-course-size
+    course-requires
     course-size-requires
     mul-r
     array-write-r

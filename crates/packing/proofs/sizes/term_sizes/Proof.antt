@@ -5,18 +5,16 @@ use native.Mathlib.Omega.{arith}
 use lib.ListN.{replicate, set}
 use borrow.Author.Needs.{needs}
 use Rattle.theory.specs.Tab.{fill, fill-more}
-use Rattle.year.specs.Year.{highCredits}
-use Rattle.year.proofs.SumLaws.{fixed-read}
-use Rattle.packing.specs.Sizes.{usedAt}
-use Rattle.packing.proofs.ArrayLaws.{fill-first}
+use Rattle.packing.specs.Sizes.{usedIn, firstOf}
+use Rattle.packing.proofs.ArrayLaws.{first-is, fill-first}
 use Rattle.packing.proofs.sizes.term_sizes.Statement.{statement}
 use Rattle.packing.proofs.sizes.term_sizes.Tie as tie
 
 abbrev Inv-loop : tie.InvT-loop
-Inv-loop c y s r₀ k₀ k-end r k = (k ≤ y .terms) × (r ≡ fill (usedAt y c) r₀ k)
+Inv-loop m c term s r₀ k₀ r k = (k ≤ m) × (r ≡ fill (firstOf m (usedIn term s c)) r₀ k)
 
 abbrev μ-loop : tie.MeasureT-loop
-μ-loop c y s r₀ k₀ k-end r k = y .terms - k
+μ-loop m c term s r₀ k₀ r k = m - k
 
 loop-holds : tie.Need-loop-holds Inv-loop μ-loop
 unfolding fill
@@ -55,16 +53,19 @@ loop-less c = search needs
 loop-again : tie.Need-loop-again Inv-loop μ-loop
 loop-again c =
     let l = c .before .before .before in
-    let b = l .before in
-    let p = fixed-read (b .args .t1) (b .args .t2) (b .pre .1) (l .loop .k) (omega (arith, b .pre .0)) in
-    let used : c .less2 .result ≡ usedAt (b .args .t1) (b .args .c) (l .loop .k) = c .less2 .ensures ∙ ap (λ x. b .args .c - x) (c .before .less .ensures ∙ ap (λ x. highCredits (b .args .t1) (l .loop .k) - x) p) in
-    (search needs, ap₂ (λ r v. set r (l .loop .k) v) (l .loop .inv .1) (used) ∙ sym (fill-more (usedAt (b .args .t1) (b .args .c)) (replicate 16 0) (l .loop .k)))
+    let a = l .before .args in
+    let k = l .loop .k in
+    let f = usedIn (a .t1) (a .t3) (a .c) in
+    let used = c .less2 .ensures ∙ ap (λ x. a .c - x) (c .before .less .ensures) ∙ first-is (a .m) k f (c .before .before .loop-test .taken) in
+    (search needs, ap₂ (λ r v. set r k v) (l .loop .inv .1) used ∙ sym (fill-more (firstOf (a .m) f) (replicate 16 0) k))
 
 returns : tie.Need-returns Inv-loop μ-loop
 returns c =
     let b = c .before .before in
-    let is : c .before .loop .k ≡ b .args .t1 .terms = omega arith in
-    c .before .loop .inv .1 ∙ ap (fill (usedAt (b .args .t1) (b .args .c)) (replicate 16 0)) is ∙ fill-first (usedAt (b .args .t1) (b .args .c)) 16 (b .args .t1 .terms) (b .pre .0 .terms-most)
+    let a = b .args in
+    let is : c .before .loop .k ≡ a .m = omega arith in
+    let f = usedIn (a .t1) (a .t3) (a .c) in
+    c .before .loop .inv .1 ∙ ap (fill (firstOf (a .m) f) (replicate 16 0)) is ∙ fill-first 16 (a .m) f (b .pre .0)
 
 pub term-sizes-spec : {M : Type 1} → statement M
 term-sizes-spec =

@@ -1,0 +1,178 @@
+-- What holds before each round of a filtering, and what one more round makes of it: it ends the filtering, or the same holds again.
+use Prim.Native.Nat.{ℕ, _+_, _≤_, _<_}
+use mathlib.Core.Bool.{Bool, true, false}
+use mathlib.Core.List.{List}
+use mathlib.Core.Path.{_≡_, refl, sym, ap, subst, _∙_}
+use native.Mathlib.Omega.{arith}
+use lib.Dec.{eqb}
+use lib.ListN.{length, getD}
+use borrow.Author.Tests.{eq-eqb, ne-eqb}
+use Rattle.theory.specs.Tab.{tab, length-tab}
+use Rattle.year.specs.Year.{weight}
+use Rattle.year.specs.Parts.{weightsOf}
+use Rattle.year.specs.Sums.{allCredits}
+use Rattle.year.specs.Sound.{Sound}
+use Rattle.year.specs.declared.Year.{Year}
+use Rattle.year.proofs.PartLaws.{own-weights}
+use Rattle.rules.specs.Step.{live, held, yearIn, stepIn}
+use Rattle.rules.specs.Round.{round}
+use Rattle.rules.specs.declared.Step.{Step}
+use Rattle.rules.specs.declared.State.{State}
+use Rattle.rules.proofs.Measure.{measure, measure-most}
+use Rattle.rules.proofs.Steps.{whole-round}
+use Rattle.walks.specs.Orders.{ordersIn, ordersOf}
+use Rattle.walks.specs.declared.Orders.{Orders}
+use Rattle.walks.proofs.OrderLaws.{orders-are}
+use Rattle.walks.proofs.WalkStages.{orders-weights}
+use Rattle.filter.specs.Filter.{filtered, atRest, roundsFrom}
+use Rattle.filter.specs.Halves.{firstHalf, secondHalf, halves}
+use Rattle.filter.specs.declared.Answer.the-variants.{NoPlan}
+use Rattle.filter.specs.declared.Filtered.{Filtered}
+use Rattle.filter.proofs.Stages.{Same, same-self, same-step, same-trans, same-first, dead-first, Own, Stage, stage-sound, stage-self, stage-step, stage-year, stage-credits, stage-rule, stage-next}
+use Rattle.filter.proofs.RoundLaws.{left, dies, rests, goes-on, round-falls}
+
+-- after n rounds, each of which altered something: what is left to do from the year at hand gives what the whole filtering
+-- gives, and the measure of that year has fallen by at least one a round
+pub record Going (y : Year) (w : List ℕ) (o : Orders) (s : State) (n : ℕ) : Type 0 where
+  pub from : roundsFrom 1025985 y y 0 ≡ roundsFrom (left n) y (yearIn w s) n
+  pub few : measure (yearIn w s) + n ≤ 1025984
+  pub same : Same y (yearIn w s)
+  pub is : s ≡ held (live (yearIn w s))
+  pub orders : (n + 1 ≡ 1 → ⊥) → o ≡ ordersIn w (y .courses)
+
+module _ (y : Year) (w : List ℕ) (sound : Sound y) (e : w ≡ weightsOf y) where
+  own : Own w y
+  own i h = ap (λ (v : List ℕ). getD v i 0) e ∙ own-weights y i h
+
+  pub long : length w ≡ 64
+  long = ap length e ∙ length-tab 64 (weight y)
+
+  -- ---- before the first round
+
+  pub going-start : (o : Orders) (s : State) → s ≡ held (live y) → Going y w o s 0
+  going-start o s q =
+      let st : Stage y s (live y) = record { is = q; same = same-self y sound } in
+      let year : yearIn w s ≡ y = stage-year w y own s (live y) st in
+      record {
+        from = ap (λ (x : Year). roundsFrom 1025985 y x 0) (sym year);
+        few = subst (λ (x : Year). measure x + 0 ≤ 1025984) (sym year) (omega (arith, measure-most y sound));
+        same = subst (Same y) (sym year) (same-self y sound);
+        is = q ∙ ap (λ (x : Year). held (live x)) (sym year);
+        orders = λ d. absurd (d refl);
+      }
+
+  -- ---- one round more
+
+  module _ (o : Orders) (s : State) (n : ℕ) (g : Going y w o s n) where
+    abbrev z : Year
+    z = yearIn w s
+
+    pub round-few : n ≤ 1025984
+    round-few = omega (arith, g .few)
+
+    st : Stage y s (live z)
+    st = record { is = g .is; same = g .same }
+
+    -- what the first half asks
+    pub credits : (a : ℕ) → a ≡ allCredits y → a ≡ allCredits z
+    credits a q = stage-credits w y own s (live z) st a q
+
+    -- the round ends with a rule that finds no plan
+    ended : (k : ℕ) → k ≡ round z .rule → (k ≡ 0 → ⊥) → (f : Filtered) → f ≡ filtered (NoPlan k (n + 1)) y → f ≡ roundsFrom 1025985 y y 0
+    ended k q d f a =
+        a
+        ∙ ap (λ (r : ℕ). filtered (NoPlan r (n + 1)) y) q
+        ∙ sym (dies y z n round-few (ne-eqb (round z .rule) 0 (λ t. d (q ∙ t))))
+        ∙ sym (g .from)
+
+    module _ (r1 : State) (e1 : r1 ≡ held (firstHalf z)) where
+      st1 : Stage y r1 (firstHalf z)
+      st1 = record { is = e1; same = same-trans y z (firstHalf z .year) (g .same) (same-first z (g .same .sound)) }
+
+      pub first-ended : (r1 .rule ≡ 0 → ⊥) → (f : Filtered) → f ≡ filtered (NoPlan (r1 .rule) (n + 1)) y → f ≡ roundsFrom 1025985 y y 0
+      first-ended d =
+          let q = stage-rule w y own r1 (firstHalf z) st1 in
+          let last : round z ≡ firstHalf z = halves z ∙ dead-first (firstHalf z) (ne-eqb (firstHalf z .rule) 0 (λ t. d (q ∙ t))) in
+          ended (r1 .rule) (q ∙ ap (λ (p : Step). p .rule) (sym last)) d
+
+      -- what the second half asks
+      pub first-sound : Sound (yearIn w r1)
+      first-sound = stage-sound w y own r1 (firstHalf z) st1
+
+      pub first-self : r1 ≡ held (stepIn w r1)
+      first-self = stage-self w y own r1 (firstHalf z) st1
+
+      pub first-orders : (p : Orders) → p ≡ ordersIn w (y .courses) → p ≡ ordersOf (yearIn w r1)
+      first-orders p q =
+          q
+          ∙ orders-are y w sound e
+          ∙ sym (orders-weights y (firstHalf z .year) (st1 .same .courses-same) (st1 .same .weight-same))
+          ∙ ap ordersOf (sym (stage-year w y own r1 (firstHalf z) st1))
+
+      module _ (r2 : State) (e2 : r2 ≡ held (secondHalf (stepIn w r1))) where
+        st2 : Stage y r2 (round z)
+        st2 = record {
+          is = e2 ∙ ap (λ (p : Step). held (secondHalf p)) (stage-step w y own r1 (firstHalf z) st1) ∙ ap held (sym (halves z));
+          same = same-step y z (round z) (g .same) (whole-round z (g .same .sound));
+        }
+
+        rule-is : r2 .rule ≡ round z .rule
+        rule-is = stage-rule w y own r2 (round z) st2
+
+        altered-is : r2 .altered ≡ round z .altered
+        altered-is = ap (λ (q : State). q .altered) (st2 .is)
+
+        year-is : yearIn w r2 ≡ round z .year
+        year-is = stage-year w y own r2 (round z) st2
+
+        lives : r2 .rule ≡ 0 → eqb (round z .rule) 0 ≡ true
+        lives d = eq-eqb (round z .rule) 0 (sym rule-is ∙ d)
+
+        pub second-ended : (r2 .rule ≡ 0 → ⊥) → (f : Filtered) → f ≡ filtered (NoPlan (r2 .rule) (n + 1)) y → f ≡ roundsFrom 1025985 y y 0
+        second-ended d = ended (r2 .rule) rule-is d
+
+        pub second-sound : Sound (yearIn w r2)
+        second-sound = stage-sound w y own r2 (round z) st2
+
+        pub second-self : r2 ≡ held (stepIn w r2)
+        second-self = stage-self w y own r2 (round z) st2
+
+        -- the year is at rest
+        pub second-rests : r2 .rule ≡ 0 → r2 .altered ≡ false → (f : Filtered) → f ≡ filtered (atRest (yearIn w r2) (n + 1)) (yearIn w r2) → f ≡ roundsFrom 1025985 y y 0
+        second-rests d a f q =
+            q
+            ∙ ap (λ (x : Year). filtered (atRest x (n + 1)) x) year-is
+            ∙ sym (rests y z n round-few (lives d) (sym altered-is ∙ a))
+            ∙ sym (g .from)
+
+        -- or there is less to narrow, and the filtering goes on
+        pub second-falls : r2 .altered ≡ true → measure (yearIn w r2) < measure z
+        second-falls a = subst (λ (x : Year). measure x < measure z) (sym year-is) (round-falls z (g .same .sound) (sym altered-is ∙ a))
+
+        abbrev again : State
+        again = record {
+          terms = r2 .terms;
+          courses = r2 .courses;
+          term = r2 .term;
+          list = r2 .list;
+          sums = r2 .sums;
+          altered = false;
+          rule = r2 .rule;
+        }
+
+        pub second-again : r2 .rule ≡ 0 → r2 .altered ≡ true → (p : Orders) → p ≡ ordersIn w (y .courses) → Going y w p again (n + 1)
+        second-again d a p q = record {
+          from = g .from ∙ goes-on y z n round-few (lives d) (sym altered-is ∙ a) ∙ ap (λ (x : Year). roundsFrom (left (n + 1)) y x (n + 1)) (sym year-is);
+          few = omega (arith, g .few, second-falls a);
+          same = subst (Same y) (sym year-is) (st2 .same);
+          is = λ i. record {
+            terms = r2 .terms;
+            courses = r2 .courses;
+            term = r2 .term;
+            list = ap (λ (x : State). x .list) second-self i;
+            sums = ap (λ (x : State). x .sums) second-self i;
+            altered = false;
+            rule = d i;
+          };
+          orders = λ t. q;
+        }

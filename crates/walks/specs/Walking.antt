@@ -1,0 +1,82 @@
+-- The walk of rules 6 to 9, course by course over an array, and what each rule makes of it.
+use Prim.Native.Nat.{ℕ, _+_}
+use mathlib.Core.Bool.{Bool, false, _||_}
+use mathlib.Core.List.{List}
+use lib.Dec.{eqb, ltb}
+use lib.ListN.{getD, take}
+use Rattle.theory.specs.Choice.{choose}
+use Rattle.theory.specs.Tab.{tab}
+use Rattle.theory.specs.Order.{keep}
+use Rattle.theory.specs.Walk.{Table, Reached, walk}
+use Rattle.year.specs.Year.{zeroCourse, isOpen}
+use Rattle.year.specs.Tight.{creditsWithin, countsWithin}
+use Rattle.year.specs.declared.Term.{Term}
+use Rattle.year.specs.declared.Course.{Course}
+use Rattle.year.specs.declared.Sums.{Sums}
+use Rattle.year.specs.Parts.{termIn, sumsIn}
+use Rattle.rules.specs.Step.{outcome}
+use Rattle.rules.specs.Spares.{blocked, charged, stops}
+use Rattle.rules.specs.declared.Outcome.{Outcome}
+use Rattle.rules.specs.declared.Until.{Until}
+use Rattle.rules.specs.declared.Until.the-variants as until
+use Rattle.walks.specs.Sparing.{spareIn}
+use Rattle.walks.specs.declared.Walk.{Walk}
+
+-- ---- one course
+
+abbrev pub walkAs : List ℕ → ℕ → ℕ → Bool → Walk
+walkAs s c n d = record { spare = s; credits = c; count = n; done = d }
+
+-- passed over if it is not open; the stop is asked of an open course, skipped or not
+unfoldable pub stepped : Walk → Course → ℕ → Until → Walk
+stepped w c j u =
+    choose (isOpen c j)
+    (choose (stops u (w .credits) (w .count) (c .weight .0) || blocked j (w .spare) c)
+    (walkAs (w .spare) (w .credits) (w .count) (stops u (w .credits) (w .count) (c .weight .0)))
+    (walkAs (charged j (w .spare) c) (w .credits + c .weight .0) (w .count + 1) false))
+    w
+
+-- ---- the courses of an array
+
+abbrev pub courseIn : List Course → ℕ → Course
+courseIn cs i = getD cs i zeroCourse
+
+abbrev pub weightIn : List Course → ℕ → ℕ
+weightIn cs i = courseIn cs i .weight .0
+
+abbrev pub openIn : List Course → ℕ → ℕ → Bool
+openIn cs j i = isOpen (courseIn cs i) j
+
+abbrev pub tableIn : List Course → ℕ → Table (List ℕ)
+tableIn cs j = record { blocked = λ s i. blocked j s (courseIn cs i); charge = λ s i. charged j s (courseIn cs i) }
+
+-- the walk over the open courses of a list
+abbrev pub walkOver : List Course → ℕ → Until → List ℕ → Walk → Reached
+walkOver cs j u o w = walk (tableIn cs j) (weightIn cs) (stops u) (keep (openIn cs j) o) (w .spare) (w .credits) (w .count)
+
+abbrev pub reached : Walk → Reached
+reached w = record { credits = w .credits; count = w .count }
+
+-- ---- rule by rule
+
+abbrev pub begunOf : List ℕ → Sums → Walk
+begunOf s u = walkAs s (u .fixed .0) (u .placed .0) false
+
+abbrev pub untilOf : ℕ → Term → Until
+untilOf rule t =
+    choose (eqb rule 6) (until.Credits (t .low .0))
+    (choose (eqb rule 7) (until.Past (t .high .0))
+    (choose (eqb rule 8) (until.Count (t .least .0))
+    (until.Count (t .most .0))))
+
+abbrev pub endedOf : ℕ → Term → Reached → Outcome
+endedOf rule t w =
+    choose (eqb rule 6) (outcome 6 (ltb (w .credits) (t .low .0)) t (countsWithin t (w .count) (t .most .0)))
+    (choose (eqb rule 7) (outcome 7 false t (countsWithin t (t .least .0) (w .count)))
+    (choose (eqb rule 8) (outcome 8 (ltb (w .count) (t .least .0)) t (creditsWithin t (w .credits) (t .high .0)))
+    (outcome 9 false t (creditsWithin t (t .low .0) (w .credits)))))
+
+-- at term j of an array: the walk over the first n courses of an order, with spares set up afresh
+abbrev pub walkedAt : ℕ → List Sums → List Course → List ℕ → ℕ → List Term → ℕ → Outcome
+walkedAt rule u cs o n t j =
+    endedOf rule (termIn t j) (walkOver cs j (untilOf rule (termIn t j)) (take n o) (begunOf (tab 16 (spareIn t u)) (sumsIn u j)))

@@ -1,0 +1,204 @@
+// Rules 6 to 9: one walk over the open courses of a term, with the number of courses that each other term can still spare.
+use crate::Walk;
+use crate::spares;
+use bounds::Bounds;
+use bounds::near;
+use rules::Outcome;
+use rules::Until;
+use totals::parts;
+use year::Course;
+use year::Sums;
+use year::Term;
+use year::doors;
+use year::tighter;
+ghost use mathlib.Core.Path.{_≡_};
+ghost use mathlib.Core.Bool.{false};
+ghost use Prim.Native.Nat.{ℕ, _+_, _≤_, _<_};
+ghost use lib.ListN.{length, getD, take};
+ghost use Rattle.year.specs.Sums.{sumsTo};
+ghost use Rattle.year.specs.Parts.{bare, coursesOf, sumsIn};
+ghost use Rattle.rules.specs.Spares.{stops};
+ghost use Rattle.bounds.specs.Turns.{overFirst};
+ghost use Rattle.walks.specs.Walking.{stepped, walkOver, reached, begunOf, untilOf, endedOf, walkedAt};
+
+// The walk ends before a course of this weight.
+fn stops(until: Until, credits: u32, count: u32, weight: u32) -> bool
+    requires { ⌜ (credits ≤ 1000000) × (weight ≤ 1000) ⌝ }
+    ensures { λ r. ⌜ r ≡ stops until credits count weight ⌝ }
+{
+    match until {
+        Until::Credits(a) => a <= credits,
+        Until::Count(a) => a <= count,
+        Until::Past(a) => a < credits + weight,
+    }
+}
+
+// One course of a walk in term j: passed over if it is not open, skipped if another term that lists it has nothing to spare. The stop is asked of a course that is skipped too.
+fn walk_step(w: Walk, c: Course, j: usize, until: Until) -> Walk
+    requires { ⌜ (j < 16) × (w .credits ≤ 1000000) × (w .count ≤ 1000000) × (c .weight .0 ≤ 1000) ⌝ }
+    ensures { λ r. ⌜ r ≡ stepped w c j until ⌝ }
+    ensures { λ r. ⌜ (r .credits ≤ w .credits + 1000) × (r .count ≤ w .count + 1) ⌝ }
+{
+    if !totals::is_open(c, j) {
+        return w;
+    }
+    let spare = w.spare;
+    let others = c.list - doors::power(j);
+    let stop = stops(until, w.credits, w.count, c.weight.0);
+    if stop | spares::blocked(spare, others) {
+        return Walk {
+            spare: spare,
+            credits: w.credits,
+            count: w.count,
+            done: stop,
+        };
+    }
+    let rest = spares::charged(spare, others);
+    Walk {
+        spare: rest,
+        credits: w.credits + c.weight.0,
+        count: w.count + 1,
+        done: false,
+    }
+}
+
+// The walk over the first n courses of an order.
+fn walked(
+    weight: &[u32],
+    list: &[u16],
+    order: &[u8],
+    n: usize,
+    j: usize,
+    until: Until,
+    w: Walk,
+) -> Walk
+    requires { ⌜ (n ≤ 64) × (n ≤ length (now weight)) × (n ≤ length (now list)) × (n ≤ length (now order)) × (j < 16) ⌝ }
+    requires { ⌜ (w .credits ≤ 64000) × (w .count ≤ 64) × (w .done ≡ false) ⌝ }
+    requires { ⌜ ((k : ℕ) → k < n → getD (now order) k 0 < n) × ((i : ℕ) → i < n → getD (now weight) i 0 ≤ 1000) ⌝ }
+    ensures { λ r. ⌜ reached r ≡ walkOver (coursesOf (now (weight .entry)) (now (list .entry))) j until (take n (now (order .entry))) w ⌝ }
+{
+    let mut z = w;
+    let mut k = 0;
+    while (k < n) & !z.done {
+        z = walk_step(z, parts::course(weight, list, order[k] as usize), j, until);
+        k += 1;
+    }
+    z
+}
+
+// A walk that begins with what is fixed in its term.
+fn begun(spare: [u8; 16], u: Sums) -> Walk
+    ensures { λ r. ⌜ r ≡ begunOf spare u ⌝ }
+{
+    Walk {
+        spare: spare,
+        credits: u.fixed.0,
+        count: u.placed.0,
+        done: false,
+    }
+}
+
+// Where the walk of a rule ends.
+fn until(rule: u32, t: Term) -> Until
+    ensures { λ r. ⌜ r ≡ untilOf rule t ⌝ }
+{
+    if rule == 6 {
+        return Until::Credits(t.low.0);
+    }
+    if rule == 7 {
+        return Until::Past(t.high.0);
+    }
+    if rule == 8 {
+        return Until::Count(t.least.0);
+    }
+    Until::Count(t.most.0)
+}
+
+// What a rule makes of the credits and the count that its walk reached.
+fn ended(rule: u32, t: Term, w: Walk) -> Outcome
+    ensures { λ r. ⌜ r ≡ endedOf rule t (reached w) ⌝ }
+{
+    if rule == 6 {
+        return near::outcome(
+            6,
+            w.credits < t.low.0,
+            t,
+            tighter::counts_within(t, w.count, t.most.0),
+        );
+    }
+    if rule == 7 {
+        return near::outcome(7, false, t, tighter::counts_within(t, t.least.0, w.count));
+    }
+    if rule == 8 {
+        return near::outcome(
+            8,
+            w.count < t.least.0,
+            t,
+            tighter::credits_within(t, w.credits, t.high.0),
+        );
+    }
+    near::outcome(9, false, t, tighter::credits_within(t, t.low.0, w.credits))
+}
+
+// A rule at term t of number j with the sums u: its walk, which is over at once where no course is open, and what it makes of it.
+fn by_walk(
+    rule: u32,
+    t: Term,
+    u: Sums,
+    spare: [u8; 16],
+    n: usize,
+    weight: &[u32],
+    list: &[u16],
+    order: &[u8],
+    j: usize,
+) -> Outcome
+    requires { ⌜ (n ≤ 64) × (n ≤ length (now weight)) × (n ≤ length (now list)) × (n ≤ length (now order)) × (j < 16) ⌝ }
+    requires { ⌜ ((k : ℕ) → k < n → getD (now order) k 0 < n) × ((i : ℕ) → i < n → getD (now weight) i 0 ≤ 1000) ⌝ }
+    requires { ⌜ u ≡ sumsTo (bare (now weight) (now list)) j n ⌝ }
+    ensures { λ r. ⌜ r ≡ endedOf rule t (walkOver (coursesOf (now (weight .entry)) (now (list .entry))) j (untilOf rule t) (take n (now (order .entry))) (begunOf spare u)) ⌝ }
+{
+    let w = begun(spare, u);
+    if u.free.0 == 0 {
+        return ended(rule, t, w);
+    }
+    ended(
+        rule,
+        t,
+        walked(weight, list, order, n, j, until(rule, t), w),
+    )
+}
+
+// A rule over the first m terms. What the terms can spare is kept up to date from term to term.
+pub fn walk_rule(
+    b: Bounds,
+    rule: u32,
+    m: usize,
+    n: usize,
+    sums: [Sums; 16],
+    weight: &[u32],
+    list: &[u16],
+    order: &[u8],
+) -> Bounds
+    requires { ⌜ (m ≤ 16) × (length (b .term) ≡ 16) ⌝ }
+    requires { ⌜ (n ≤ 64) × (n ≤ length (now weight)) × (n ≤ length (now list)) × (n ≤ length (now order)) ⌝ }
+    requires { ⌜ ((k : ℕ) → k < n → getD (now order) k 0 < n) × ((i : ℕ) → i < n → getD (now weight) i 0 ≤ 1000) ⌝ }
+    requires { ⌜ ((k : ℕ) → k < 16 → sumsIn sums k ≡ sumsTo (bare (now weight) (now list)) k n) ⌝ }
+    ensures { λ r. ⌜ r ≡ overFirst (walkedAt rule sums (coursesOf (now (weight .entry)) (now (list .entry))) (now (order .entry)) n) b m ⌝ }
+{
+    let mut z = b;
+    let term = b.term;
+    let mut spare = spares::spares(term, sums);
+    let mut j = 0;
+    while (j < m) & (z.rule == 0) {
+        let t = z.term[j];
+        let u = sums[j];
+        let o = by_walk(rule, t, u, spare, n, weight, list, order, j);
+        let v = o.term;
+        z.term[j] = v;
+        spare[j] = spares::spare(v, u);
+        z.altered = z.altered | o.altered;
+        z.rule = o.rule;
+        j += 1;
+    }
+    z
+}

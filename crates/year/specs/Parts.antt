@@ -1,0 +1,52 @@
+-- A year in parts: its courses as one array of weights and one of lists, which are lent whole where a year would be copied.
+use Prim.Native.Nat.{ℕ}
+use mathlib.Core.List.{List, []}
+use lib.ListN.{getD}
+use Rattle.theory.specs.Tab.{tab}
+use Rattle.year.specs.Year.{zeroTerm, courseOf, weight, list}
+use Rattle.year.specs.Sums.{noSums}
+use Rattle.year.specs.declared.Term.{Term}
+use Rattle.year.specs.declared.Course.{Course}
+use Rattle.year.specs.declared.Columns.{Columns}
+use Rattle.year.specs.declared.Sums.{Sums}
+use Rattle.year.specs.declared.Year.{Year}
+
+-- ---- taken apart
+
+abbrev pub weightsOf : Year → List ℕ
+weightsOf y = tab 64 (weight y)
+
+abbrev pub listsOf : Year → List ℕ
+listsOf y = tab 64 (list y)
+
+abbrev pub columnsOf : Year → Columns
+columnsOf y = record { weight = weightsOf y; list = listsOf y }
+
+-- ---- put together
+
+abbrev pub courseFrom : List ℕ → List ℕ → ℕ → Course
+courseFrom w l i = courseOf (getD w i 0) (getD l i 0)
+
+unfoldable pub coursesOf : List ℕ → List ℕ → List Course
+coursesOf w l = tab 64 (courseFrom w l)
+
+abbrev pub yearOf : ℕ → ℕ → List Term → List ℕ → List ℕ → Year
+yearOf m n t w l = record { terms = m; courses = n; term = t; course = coursesOf w l }
+
+-- a year of which only the courses are asked
+abbrev pub bare : List ℕ → List ℕ → Year
+bare w l = yearOf 0 0 [] w l
+
+-- ---- entries of an array of terms, and of one of sums
+
+abbrev pub termIn : List Term → ℕ → Term
+termIn t k = getD t k zeroTerm
+
+abbrev pub highIn : List Term → ℕ → ℕ
+highIn t k = termIn t k .high .0
+
+abbrev pub sumsIn : List Sums → ℕ → Sums
+sumsIn s k = getD s k noSums
+
+abbrev pub fixedIn : List Sums → ℕ → ℕ
+fixedIn s k = sumsIn s k .fixed .0
