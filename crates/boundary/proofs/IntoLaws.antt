@@ -1,12 +1,11 @@
 -- A year filtered or narrowed into a buffer: the buffer after each ending.
 use Prim.Native.Nat.{ℕ, _+_, _*_, _≤_}
 use mathlib.Core.List.{List}
-use mathlib.Core.Path.{_≡_, refl, sym, ap, _∙_}
+use mathlib.Core.Path.{_≡_, sym, ap, _∙_}
 use Rattle.year.specs.Sound.{Sound}
 use Rattle.year.specs.declared.Year.{Year}
 use Rattle.year.specs.declared.Narrowed.{Narrowed}
 use Rattle.year.specs.declared.Narrowing.{Narrowing}
-use Rattle.records.specs.Writing.{written}
 use Rattle.filter.specs.Filter.{filterOf}
 use Rattle.filter.specs.declared.Answer.{Answer}
 use Rattle.filter.specs.declared.Filtered.{Filtered}

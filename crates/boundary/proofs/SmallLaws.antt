@@ -1,8 +1,8 @@
 -- Values that answers carry are small: the place of a refused record, and an imbalance.
-use Prim.Native.Nat.{ℕ, zero, suc, _-_, _*_, _/_, _%_, _≤_, _<_}
+use Prim.Native.Nat.{ℕ, zero, suc, _-_, _/_, _%_, _≤_, _<_}
 use mathlib.Core.Bool.{Bool, true, false, not, _||_}
 use mathlib.Core.List.{List}
-use mathlib.Core.Path.{_≡_, refl, sym, ap, _∙_}
+use mathlib.Core.Path.{_≡_, refl, ap}
 use native.Mathlib.Omega.{arith}
 use lib.Dec.{eqb, ltb}
 use lib.ListN.{length}
@@ -10,13 +10,12 @@ use borrow.Author.Tests.{ltb-false}
 use Rattle.theory.specs.Choice.{choose}
 use Rattle.theory.specs.Tests.{or-false}
 use Rattle.year.specs.Sound.{isSound, Sound}
-use Rattle.year.specs.Sums.{fixedCredits, openCredits, allCredits}
-use Rattle.year.specs.Imbalance.{largest, smallest, spreadOf, onePlan, imbalanceOf}
+use Rattle.year.specs.Sums.{fixedCredits}
+use Rattle.year.specs.Imbalance.{largest, spreadOf, onePlan, imbalanceOf}
 use Rattle.year.specs.Numbers.{imbalanceValue}
 use Rattle.year.proofs.SoundLaws.{sound-of}
 use Rattle.year.proofs.SumLaws.{all-credits-le, possible-le}
 use Rattle.year.specs.declared.Year.{Year}
-use Rattle.year.specs.declared.Measured.{Measured}
 use Rattle.year.specs.declared.Measured.the-variants.{Imbalance, Unsound, Unsettled}
 use Rattle.records.specs.declared.Fault.{Fault}
 use Rattle.records.specs.declared.Fault.the-variants as fault

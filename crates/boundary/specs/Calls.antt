@@ -17,7 +17,6 @@ use Rattle.records.specs.declared.Reading.the-variants as reading
 use Rattle.filter.specs.Filter.{filterOf}
 use Rattle.filter.specs.declared.Answer.{Answer}
 use Rattle.filter.specs.declared.Answer.the-variants.{Settled, Open, NoPlan, Unsound}
-use Rattle.filter.specs.declared.Filtered.{Filtered}
 use Rattle.boundary.specs.Packed.{readingCode, shortCode, narrowingCode, measuredCode, answerCode}
 
 -- a call's own answer where the list was read, otherwise reading's

@@ -1,13 +1,13 @@
 -- What holds before each round of a filtering, and what one more round makes of it: it ends the filtering, or the same holds again.
 use Prim.Native.Nat.{ℕ, _+_, _≤_, _<_}
-use mathlib.Core.Bool.{Bool, true, false}
+use mathlib.Core.Bool.{true, false}
 use mathlib.Core.List.{List}
 use mathlib.Core.Path.{_≡_, refl, sym, ap, subst, _∙_}
 use native.Mathlib.Omega.{arith}
 use lib.Dec.{eqb}
 use lib.ListN.{length, getD}
 use borrow.Author.Tests.{eq-eqb, ne-eqb}
-use Rattle.theory.specs.Tab.{tab, length-tab}
+use Rattle.theory.specs.Tab.{length-tab}
 use Rattle.year.specs.Year.{weight}
 use Rattle.year.specs.Parts.{weightsOf}
 use Rattle.year.specs.Sums.{allCredits}
@@ -28,7 +28,7 @@ use Rattle.filter.specs.Filter.{filtered, atRest, roundsFrom}
 use Rattle.filter.specs.Halves.{firstHalf, secondHalf, halves}
 use Rattle.filter.specs.declared.Answer.the-variants.{NoPlan}
 use Rattle.filter.specs.declared.Filtered.{Filtered}
-use Rattle.filter.proofs.Stages.{Same, same-self, same-step, same-trans, same-first, dead-first, Own, Stage, stage-sound, stage-self, stage-step, stage-year, stage-credits, stage-rule, stage-next}
+use Rattle.filter.proofs.Stages.{Same, same-self, same-step, same-trans, same-first, dead-first, Own, Stage, stage-sound, stage-self, stage-step, stage-year, stage-credits, stage-rule}
 use Rattle.filter.proofs.RoundLaws.{left, dies, rests, goes-on, round-falls}
 
 -- after n rounds, each of which altered something: what is left to do from the year at hand gives what the whole filtering

@@ -1,15 +1,14 @@
 -- How rounds go on after n of them. The number that makes the recursion end never runs out: every altering round lowers the measure.
 use Prim.Native.Nat.{ℕ, zero, suc, _+_, _-_, _≤_, _<_}
 use mathlib.Core.Bool.{Bool, true, false}
-use mathlib.Core.Path.{_≡_, refl, sym, ap, _∙_}
+use mathlib.Core.Path.{_≡_}
 use native.Mathlib.Omega.{arith}
 use lib.Dec.{eqb}
-use Rattle.theory.specs.Sum.{pick}
 use Rattle.year.specs.Sound.{Sound}
 use Rattle.year.specs.declared.Year.{Year}
 use Rattle.year.proofs.SoundLaws.{sound-to}
 use Rattle.rules.specs.Round.{round}
-use Rattle.rules.proofs.Measure.{measure, measure-most}
+use Rattle.rules.proofs.Measure.{measure}
 use Rattle.rules.proofs.Steps.{whole-round}
 use Rattle.filter.specs.Filter.{filtered, atRest, roundsFrom, filterOf}
 use Rattle.filter.specs.declared.Answer.the-variants.{NoPlan}

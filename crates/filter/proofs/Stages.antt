@@ -24,7 +24,7 @@ use Rattle.rules.specs.declared.Step.{Step}
 use Rattle.rules.specs.declared.State.{State}
 use Rattle.rules.proofs.Whole.{Whole, next-dead, over-dead, credits-same}
 use Rattle.rules.proofs.Holding.{year-held, step-held, sound-held, held-self}
-use Rattle.rules.proofs.Steps.{whole-1, whole-2, whole-3, whole-4, whole-5, whole-6, whole-7, whole-8, whole-9, whole-10, whole-11}
+use Rattle.rules.proofs.Steps.{whole-1, whole-2, whole-3, whole-4, whole-5, whole-6, whole-7, whole-8, whole-9, whole-10}
 use Rattle.filter.specs.Halves.{rules1to2, rules4to5, rules6to9, firstHalf, secondHalf}
 
 -- ---- what stays

@@ -1,8 +1,7 @@
 -- Whole filterings by computation: rows 1 to 5 of the paper's table; small years on which each rule finds no plan or makes the
 -- difference; and for each of the paper's traps a year that the trapped version answers otherwise.
 use Prim.Native.Nat.{ℕ}
-use mathlib.Core.Bool.{true, false}
-use mathlib.Core.List.{List, [], _∷_, _++_}
+use mathlib.Core.List.{List, [], _∷_}
 use mathlib.Core.Path.{_≡_, refl}
 use Rattle.theory.specs.Sum.{sum}
 use Rattle.theory.specs.Tests.{any, all}
@@ -11,15 +10,13 @@ use Rattle.theory.specs.Load.{others}
 use Rattle.theory.specs.Order.{rank, orderTo, keep}
 use Rattle.theory.specs.Walk.{walk}
 use Rattle.theory.specs.Packing.{share}
-use Rattle.year.specs.Year.{termOf, courseOf, zeroTerm, zeroCourse}
+use Rattle.year.specs.Year.{termOf, courseOf}
 use Rattle.year.specs.Sound.{isSound}
 use Rattle.year.specs.Sums.{fixedCredits, openCredits, fixedCount, openCount, allCredits, isPlaced, allPlaced}
 use Rattle.year.specs.Tight.{creditsWithin, countsWithin}
 use Rattle.year.specs.Imbalance.{largest}
-use Rattle.year.specs.declared.Term.{Term}
-use Rattle.year.specs.declared.Course.{Course}
 use Rattle.year.specs.declared.Year.{Year}
-use Rattle.rules.specs.Step.{step, outcome, overTo}
+use Rattle.rules.specs.Step.{outcome, overTo}
 use Rattle.rules.specs.Bounds.{rule1, rule2, rule4, rule5}
 use Rattle.rules.specs.Lists.{verdict3, rule3Course, rule3, verdict10, rule10Course, rule10}
 use Rattle.rules.specs.Spares.{spares, blocked, charged, walkOf, down, up, rule6, rule7, rule8, rule9}
@@ -28,7 +25,7 @@ use Rattle.rules.specs.Round.{round}
 use Rattle.rules.specs.Examples.{yearOf}
 use Rattle.filter.specs.Filter.{filtered, roundsFrom, filterOf}
 use Rattle.filter.specs.declared.Filtered.{Filtered}
-use Rattle.filter.specs.declared.Answer.the-variants.{Settled, Open, NoPlan, Unsound}
+use Rattle.filter.specs.declared.Answer.the-variants.{Settled, Open, NoPlan}
 
 -- ---- examples
 

@@ -1,6 +1,6 @@
 -- Filtering repeats rounds until one alters nothing; that last round is counted.
 use Prim.Native.Nat.{ℕ, zero, suc, _+_}
-use mathlib.Core.Bool.{Bool, true, false}
+use mathlib.Core.Bool.{true, false}
 use lib.Dec.{eqb}
 use Rattle.theory.specs.Choice.{choose}
 use Rattle.year.specs.Sound.{isSound}

@@ -1,7 +1,5 @@
 -- A larger filtering by computation: six terms and eighteen courses around a hidden plan with little slack.
-use Prim.Native.Nat.{ℕ}
-use mathlib.Core.Bool.{true, false}
-use mathlib.Core.List.{List, [], _∷_, _++_}
+use mathlib.Core.List.{[], _∷_}
 use mathlib.Core.Path.{_≡_, refl}
 use Rattle.theory.specs.Sum.{sum}
 use Rattle.theory.specs.Tests.{any, all}
@@ -10,15 +8,13 @@ use Rattle.theory.specs.Load.{others}
 use Rattle.theory.specs.Order.{rank, orderTo, keep}
 use Rattle.theory.specs.Walk.{walk}
 use Rattle.theory.specs.Packing.{share}
-use Rattle.year.specs.Year.{termOf, courseOf, zeroTerm, zeroCourse}
+use Rattle.year.specs.Year.{termOf, courseOf}
 use Rattle.year.specs.Sound.{isSound}
 use Rattle.year.specs.Sums.{fixedCredits, openCredits, fixedCount, openCount, allCredits, isPlaced, allPlaced}
 use Rattle.year.specs.Tight.{creditsWithin, countsWithin}
 use Rattle.year.specs.Imbalance.{largest}
-use Rattle.year.specs.declared.Term.{Term}
-use Rattle.year.specs.declared.Course.{Course}
 use Rattle.year.specs.declared.Year.{Year}
-use Rattle.rules.specs.Step.{step, outcome, overTo}
+use Rattle.rules.specs.Step.{outcome, overTo}
 use Rattle.rules.specs.Bounds.{rule1, rule2, rule4, rule5}
 use Rattle.rules.specs.Lists.{verdict3, rule3Course, rule3, verdict10, rule10Course, rule10}
 use Rattle.rules.specs.Spares.{spares, blocked, charged, walkOf, down, up, rule6, rule7, rule8, rule9}
@@ -26,8 +22,7 @@ use Rattle.rules.specs.Packing.{shares, rule11}
 use Rattle.rules.specs.Round.{round}
 use Rattle.rules.specs.Examples.{yearOf}
 use Rattle.filter.specs.Filter.{filtered, roundsFrom, filterOf}
-use Rattle.filter.specs.declared.Filtered.{Filtered}
-use Rattle.filter.specs.declared.Answer.the-variants.{Settled, Open, NoPlan, Unsound}
+use Rattle.filter.specs.declared.Answer.the-variants.{Open}
 
 -- the year, and what filtering makes of it
 abbrev given : Year

@@ -1,15 +1,13 @@
 -- The calls for other languages: done, they leave the records of the year in the front of the lent buffer, as many bytes as the list has, and nothing else altered; refused, or with no plan, they leave every byte.
 use Prim.Native.Nat.{ℕ, _+_, _*_, _/_, _≤_, _<_}
 use mathlib.Core.List.{List, _++_}
-use mathlib.Core.Path.{_≡_, refl, sym, ap, _∙_}
-use mathlib.Core.Bool.{Bool, true, false}
+use mathlib.Core.Path.{_≡_, refl, ap, _∙_}
 use native.Mathlib.Omega.{arith}
 use lib.Dec.{eqb, ltb}
 use lib.ListN.{length, drop}
 use borrow.Author.Tests.{lt-ltb, le-ltb}
-use Rattle.theory.specs.Choice.{choose, choose-any}
+use Rattle.theory.specs.Choice.{choose-any}
 use Rattle.year.specs.Sound.{Sound}
-use Rattle.year.specs.Narrow.{answered, placeOf, barOf, raiseLowCreditsOf, lowerHighCreditsOf, raiseLowCountOf, lowerHighCountOf}
 use Rattle.year.specs.Numbers.{narrowingNumber}
 use Rattle.year.specs.declared.Year.{Year}
 use Rattle.year.specs.declared.Narrowed.{Narrowed}

@@ -1,9 +1,8 @@
 -- The paper's proved table: twelve rows, one statement, by computation. Rows 6 to 9 at the rule's own function.
 use Prim.Native.Nat.{ℕ, zero, suc}
-use mathlib.Core.Bool.{Bool, true, false}
 use mathlib.Core.List.{List, [], _∷_, _++_}
 use mathlib.Core.Path.{_≡_, refl}
-use lib.ListN.{length, replicate, take}
+use lib.ListN.{replicate}
 use Rattle.theory.specs.Choice.{choose}
 use Rattle.theory.specs.Sum.{sum}
 use Rattle.theory.specs.Tests.{any, all}

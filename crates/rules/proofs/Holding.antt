@@ -2,15 +2,13 @@
 use Prim.Native.Nat.{ℕ, _^_, _≤_, _<_}
 use mathlib.Core.List.{List}
 use mathlib.Core.Path.{_≡_, refl, sym, ap, subst, _∙_}
-use native.Mathlib.Omega.{arith}
 use lib.ListN.{length, getD}
 use Rattle.theory.specs.Tab.{tab, length-tab}
-use Rattle.year.specs.Year.{weight, courseAt}
+use Rattle.year.specs.Year.{weight}
 use Rattle.year.specs.Sums.{sumsTo, sumsAt}
-use Rattle.year.specs.Parts.{weightsOf, listsOf, courseFrom, bare, yearOf}
+use Rattle.year.specs.Parts.{bare, yearOf}
 use Rattle.year.specs.Sound.{Sound}
-use Rattle.year.specs.declared.Year.{Year}
-use Rattle.year.proofs.PartLaws.{course-in, year-is, own-weights, weight-fits, list-fits}
+use Rattle.year.proofs.PartLaws.{year-is, weight-fits, list-fits}
 use Rattle.rules.specs.Step.{step, held, yearIn, stepIn}
 use Rattle.rules.specs.declared.Step.{Step}
 use Rattle.rules.specs.declared.State.{State}

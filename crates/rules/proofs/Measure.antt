@@ -1,17 +1,15 @@
 -- How much there is left to narrow: what lies between the bounds, and the terms listed beyond one. At most 1,025,984 in a sound year.
-use Prim.Native.Nat.{ℕ, zero, suc, _+_, _-_, _*_, _^_, _≤_, _<_, max, min}
-use mathlib.Core.Bool.{Bool, true, false, not, _&&_, _||_}
-use mathlib.Core.Path.{_≡_, refl, sym, ap, _∙_}
+use Prim.Native.Nat.{ℕ, _+_, _-_, _^_, _≤_, _<_}
+use mathlib.Core.Bool.{Bool, true, false, not, _&&_}
+use mathlib.Core.Path.{_≡_, refl, ap, _∙_}
 use native.Mathlib.Omega.{arith}
-use native.Mathlib.Nat.{mul-le-mul-right, le-trans}
-use lib.Dec.{eqb, ltb}
-use lib.Pow.{pow-pos}
-use borrow.Author.Tests.{eq-eqb, ne-eqb, ltb-true, ltb-false}
-use Rattle.theory.specs.Choice.{choose}
-use Rattle.theory.specs.Sum.{pick, pick-le, sum, sum-cong, sum-change, sum-term-le, sum-le-mul, sum-single}
-use Rattle.theory.specs.Bits.{has, has-le, has-power, has-struck, has-some, power-below}
+use native.Mathlib.Nat.{mul-le-mul-right}
+use lib.Dec.{eqb}
+use borrow.Author.Tests.{eq-eqb, ne-eqb}
+use Rattle.theory.specs.Sum.{pick, pick-le, sum, sum-change, sum-term-le, sum-le-mul, sum-single}
+use Rattle.theory.specs.Bits.{has, has-le, has-power, has-struck, has-some}
 use Rattle.year.specs.Year.{termAt, courseAt}
-use Rattle.year.specs.Sound.{Sound, TermSound}
+use Rattle.year.specs.Sound.{Sound}
 use Rattle.year.specs.declared.Term.{Term}
 use Rattle.year.specs.declared.Year.{Year}
 

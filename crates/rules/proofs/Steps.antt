@@ -1,31 +1,30 @@
 -- Every step of the eleven rules leaves a whole year: there are two kinds, one on a term's bounds and one on a course's list.
-use Prim.Native.Nat.{ℕ, zero, suc, _+_, _-_, _/_, _^_, _≤_, _<_, max, min}
-use mathlib.Core.Bool.{Bool, true, false, not, _&&_, _||_, true≢false, false≢true}
-use mathlib.Core.Path.{_≡_, refl, sym, ap, _∙_, subst}
+use Prim.Native.Nat.{ℕ, _+_, _-_, _/_, _^_, _≤_, _<_, max, min}
+use mathlib.Core.Bool.{Bool, true, false, not, _||_, true≢false}
+use mathlib.Core.Path.{_≡_, refl, sym, ap, _∙_}
 use native.Mathlib.Omega.{arith}
-use native.Mathlib.Nat.{le-refl, le-trans, le-of-eq}
-use native.Mathlib.Decide.{ℕ-discrete, decLt}
+use native.Mathlib.Nat.{le-refl, le-of-eq}
+use native.Mathlib.Decide.{ℕ-discrete}
 use lib.Dec.{eqb, ltb}
-use borrow.Author.Tests.{eqb-true, eqb-false, eq-eqb, ltb-true, ltb-false}
-use Rattle.theory.specs.Choice.{choose, choose-case, choose-any}
-use Rattle.theory.specs.Sum.{pick, sum, sum-change, sum-cong}
+use borrow.Author.Tests.{eqb-true, eq-eqb, ltb-true, ltb-false}
+use Rattle.theory.specs.Choice.{choose-case, choose-any}
+use Rattle.theory.specs.Sum.{pick, sum-change}
 use Rattle.theory.specs.Tests.{any, and-true, or-false}
 use Rattle.theory.specs.Bits.{has, has-struck, has-power, power-below}
-use Rattle.year.specs.Year.{termAt, courseAt, termOf, weight, list, lists, isFixed, isOpen, lowCredits, highCredits, lowCount, highCount, withTerm, withList, placed, struck}
+use Rattle.year.specs.Year.{termAt, courseAt, list, lists, isFixed, isOpen, lowCredits, highCredits, lowCount, highCount, withTerm, withList, placed, struck}
 use Rattle.year.specs.Sums.{fixedCount, openCount}
 use Rattle.year.specs.Sound.{Sound, TermSound}
 use Rattle.year.specs.Tight.{creditsWithin, countsWithin}
 use Rattle.year.specs.declared.Term.{Term}
-use Rattle.year.specs.declared.Tight.{Tight}
 use Rattle.year.specs.declared.Course.{Course}
 use Rattle.year.specs.declared.Year.{Year}
-use Rattle.year.proofs.DoorLaws.{term-same, term-other, with-term-sound, course-same, course-other, weight-same, with-list-sound, placed-sound, struck-sound}
-use Rattle.rules.specs.Step.{step, live, dead, outcome, outcomeOf, put, judged, next, overTo, overTerms, overCourses}
+use Rattle.year.proofs.DoorLaws.{term-same, term-other, with-term-sound, course-same, course-other, weight-same, placed-sound, struck-sound}
+use Rattle.rules.specs.Step.{step, live, dead, outcome, put, judged, overTerms}
 use Rattle.rules.specs.Bounds.{rule1, rule2, rule4, rule5}
 use Rattle.rules.specs.Lists.{verdict3, rule3Course, rule3, full, needed, verdict10, rule10Course, rule10}
 use Rattle.rules.specs.Spares.{rule6, rule7, rule8, rule9}
 use Rattle.rules.specs.Packing.{burst, room, bursts, rule11}
-use Rattle.rules.specs.Round.{bounded, once, round}
+use Rattle.rules.specs.Round.{bounded, round}
 use Rattle.rules.specs.declared.Step.{Step}
 use Rattle.rules.specs.declared.Outcome.{Outcome}
 use Rattle.rules.specs.declared.Verdict.{Verdict}

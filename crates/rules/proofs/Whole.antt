@@ -1,21 +1,20 @@
 -- What every step of a rule leaves: a sound year of the same terms, courses and weights, no bound looser and no list longer,
 -- and less to narrow where it altered something. What holds of each step holds of steps in a row.
-use Prim.Native.Nat.{ℕ, zero, suc, _+_, _-_, _^_, _≤_, _<_}
-use mathlib.Core.Bool.{Bool, true, false, not, _&&_, _||_}
+use Prim.Native.Nat.{ℕ, zero, suc, _+_, _-_, _≤_, _<_}
+use mathlib.Core.Bool.{Bool, true, false, not, _||_}
 use mathlib.Core.Path.{_≡_, refl, sym, ap, ap₂, _∙_, fun-ext}
 use native.Mathlib.Omega.{arith}
 use native.Mathlib.Nat.{le-refl, le-trans}
 use native.Mathlib.Decide.{ℕ-discrete}
 use lib.Dec.{eqb}
-use borrow.Author.Tests.{eqb-true}
-use Rattle.theory.specs.Choice.{choose, choose-case}
+use Rattle.theory.specs.Choice.{choose-case}
 use Rattle.theory.specs.Sum.{pick, sum}
 use Rattle.theory.specs.Order.{heavier, lighter, order}
 use Rattle.year.specs.Year.{courseAt, weight, lists, lowCredits, highCredits, lowCount, highCount}
 use Rattle.year.specs.Sums.{allCredits}
 use Rattle.year.specs.Sound.{Sound}
 use Rattle.year.specs.declared.Year.{Year}
-use Rattle.rules.specs.Step.{step, live, dead, next, overTo}
+use Rattle.rules.specs.Step.{step, dead, next, overTo}
 use Rattle.rules.specs.Spares.{down, up}
 use Rattle.rules.specs.declared.Step.{Step}
 use Rattle.rules.proofs.Measure.{measure}

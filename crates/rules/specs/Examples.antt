@@ -1,18 +1,17 @@
 -- Rules by themselves, by computation: rows 6 to 9 of the paper's table, and two of its traps at the rule they are about.
 use Prim.Native.Nat.{ℕ, _+_, _/_}
-use mathlib.Core.Bool.{true, false}
 use mathlib.Core.List.{List, [], _∷_, _++_}
 use mathlib.Core.Path.{_≡_, refl}
 use lib.ListN.{length, replicate, take}
 use Rattle.theory.specs.Sum.{sum}
-use Rattle.theory.specs.Tests.{any, all}
+use Rattle.theory.specs.Tests.{any}
 use Rattle.theory.specs.Tab.{tab}
 use Rattle.theory.specs.Order.{rank, orderTo, keep}
 use Rattle.theory.specs.Walk.{walk}
 use Rattle.theory.specs.Packing.{share}
 use Rattle.year.specs.Year.{termOf, courseOf, zeroTerm, zeroCourse, list}
 use Rattle.year.specs.Sums.{fixedCredits, openCredits, fixedCount, openCount, isPlaced}
-use Rattle.year.specs.Tight.{creditsWithin, countsWithin}
+use Rattle.year.specs.Tight.{countsWithin}
 use Rattle.year.specs.Imbalance.{largest}
 use Rattle.year.specs.declared.Term.{Term}
 use Rattle.year.specs.declared.Course.{Course}

@@ -2,12 +2,12 @@
 use Prim.Native.Nat.{ℕ, zero, suc, _+_}
 use mathlib.Core.Bool.{Bool, true, false, _||_}
 use mathlib.Core.List.{List}
-use mathlib.Core.Path.{_≡_, refl}
+use mathlib.Core.Path.{_≡_}
 use native.Mathlib.Numerals.{add-one}
 use lib.Dec.{eqb}
 use Rattle.theory.specs.Choice.{choose}
 use Rattle.theory.specs.Tab.{tab}
-use Rattle.year.specs.Year.{termAt, withTerm, placed, struck}
+use Rattle.year.specs.Year.{withTerm, placed, struck}
 use Rattle.year.specs.Sums.{sumsAt}
 use Rattle.year.specs.Parts.{listsOf, yearOf}
 use Rattle.year.specs.declared.Term.{Term}

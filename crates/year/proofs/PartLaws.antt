@@ -1,14 +1,13 @@
 -- A year taken apart and put together is the year; and what is summed over the parts.
 use Prim.Native.Nat.{ℕ, _^_, _≤_, _<_}
-use mathlib.Core.Bool.{Bool, true, false, _&&_, not}
+use mathlib.Core.Bool.{Bool, true, false}
 use mathlib.Core.List.{List, []}
-use mathlib.Core.Path.{_≡_, refl, sym, ap, ap₂, _∙_}
+use mathlib.Core.Path.{_≡_, refl, ap, ap₂, _∙_}
 use native.Mathlib.Omega.{arith}
-use native.Mathlib.Decide.{ℕ-discrete}
 use lib.Dec.{eqb}
 use lib.ListN.{length, getD}
 use borrow.Author.Tests.{eq-eqb, ne-eqb}
-use Rattle.theory.specs.Sum.{pick, sum-zero}
+use Rattle.theory.specs.Sum.{sum-zero}
 use Rattle.theory.specs.Bits.{has, has-below, has-power}
 use Rattle.theory.specs.Tab.{tab, length-tab, getD-tab, tab-cong, tab-getD}
 use Rattle.year.specs.Year.{courseOf, zeroCourse, courseAt, weight, list, isFixed, isOpen}
@@ -17,7 +16,6 @@ use Rattle.year.specs.Parts.{weightsOf, listsOf, columnsOf, courseFrom, 
 use Rattle.year.specs.Sound.{Sound}
 use Rattle.year.specs.declared.Columns.{Columns}
 use Rattle.year.specs.declared.Course.{Course}
-use Rattle.year.specs.declared.Sums.{Sums}
 use Rattle.year.specs.declared.Year.{Year}
 
 -- ---- the courses
@@ -25,10 +23,6 @@ use Rattle.year.specs.declared.Year.{Year}
 pub course-in : (w l : List ℕ) (i : ℕ) → i < 64 → getD (coursesOf w l) i zeroCourse ≡ courseFrom w l i
 unfolding coursesOf
 course-in w l i h = getD-tab 64 (courseFrom w l) zeroCourse i h
-
-pub courses-length : (w l : List ℕ) → length (coursesOf w l) ≡ 64
-unfolding coursesOf
-courses-length w l = length-tab 64 (courseFrom w l)
 
 -- a year's own lists, with weights that are its own
 pub parts-are : (y : Year) (w : List ℕ) → length (y .course) ≡ 64 → ((i : ℕ) → i < 64 → getD w i 0 ≡ weight y i) → coursesOf w (listsOf y) ≡ y .course

@@ -1,5 +1,5 @@
 -- `turfsteeple_imbalance`: a list that does not read is refused, otherwise its year is measured.
-use mathlib.Core.Path.{_≡_, sym, ap, _∙_}
+use mathlib.Core.Path.{sym, ap, _∙_}
 use Rattle.records.specs.declared.Received.{Received}
 use Rattle.boundary.proofs.CallLaws as law
 use Rattle.boundary.proofs.SmallLaws.{place-small}

@@ -1,7 +1,7 @@
 -- Each argument is listed in turn: the loop's number stays at most one past the last.
 use Rattle.cases.proofs.main.Statement.{statement}
 use Rattle.cases.proofs.main.Tie as tie
-use Prim.Native.Nat.{ℕ, _≤_, _-_, _+_}
+use Prim.Native.Nat.{_≤_, _-_, _+_}
 use borrow.Author.Needs.{needs}
 
 abbrev Inv-loop : tie.InvT-loop

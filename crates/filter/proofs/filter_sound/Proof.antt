@@ -1,5 +1,4 @@
 -- A sound year is not refused.
-use mathlib.Core.Path.{_∙_, sym}
 use borrow.Author.Needs.{needs}
 use Rattle.year.proofs.SoundLaws.{sound-to}
 use Rattle.filter.specs.Filter.{filterOf}

@@ -1,15 +1,6 @@
 -- The sums over the parts are the year's, since the parts put together are the year.
-use Prim.Native.Nat.{ℕ, _^_, _≤_, _<_}
-use mathlib.Core.List.{List}
-use mathlib.Core.Path.{_≡_, sym, ap, _∙_}
-use native.Mathlib.Omega.{arith}
-use lib.ListN.{length, getD}
+use mathlib.Core.Path.{_∙_}
 use borrow.Author.Needs.{needs}
-use Rattle.theory.specs.Tab.{tab, length-tab}
-use Rattle.year.specs.Year.{weight, list}
-use Rattle.year.specs.Sums.{sumsAt}
-use Rattle.year.specs.declared.Columns.{Columns}
-use Rattle.year.specs.declared.Year.{Year}
 use Rattle.year.proofs.PartLaws.{sums-apart, columns-fit}
 use Rattle.totals.proofs.sums_of.Statement.{statement}
 use Rattle.totals.proofs.sums_of.Tie as tie

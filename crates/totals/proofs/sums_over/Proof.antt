@@ -1,5 +1,5 @@
 -- The loop's invariant: the array at the start, filled with the sums of the first j terms. What the others hold, nothing, is right already.
-use Prim.Native.Nat.{ℕ, _≤_, _<_, _-_}
+use Prim.Native.Nat.{ℕ, _≤_, _-_}
 use mathlib.Core.List.{List}
 use mathlib.Core.Path.{_≡_, sym, ap, ap₂, _∙_}
 use native.Mathlib.Omega.{arith}

@@ -1,5 +1,5 @@
 -- `codes::answer`: each arm packs what its case holds.
-use mathlib.Core.Path.{_≡_, sym, ap, _∙_}
+use mathlib.Core.Path.{sym, ap, _∙_}
 use Rattle.boundary.specs.Packed.{answerCode}
 use borrow.Author.Needs.{needs}
 use Rattle.boundary.proofs.codes.answer.Statement.{statement}

@@ -1,5 +1,5 @@
 -- `codes::imbalance`: each arm packs what its case holds; an imbalance is small.
-use mathlib.Core.Path.{_≡_, sym, ap, _∙_}
+use mathlib.Core.Path.{sym, ap, _∙_}
 use Rattle.boundary.specs.Packed.{measuredCode}
 use Rattle.boundary.proofs.SmallLaws.{imbalance-small}
 use borrow.Author.Needs.{needs}

@@ -1,5 +1,5 @@
 -- `codes::narrowing`: each arm returns the number of its case.
-use mathlib.Core.Path.{_≡_, sym, ap}
+use mathlib.Core.Path.{sym, ap}
 use borrow.Author.Needs.{needs}
 use Rattle.boundary.specs.Packed.{narrowingCode}
 use Rattle.boundary.proofs.codes.narrowing.Statement.{statement}

@@ -1,7 +1,6 @@
 -- `codes::reading`: done is 0, a refusal its number and place.
-use mathlib.Core.Path.{_≡_, sym, ap, _∙_}
+use mathlib.Core.Path.{sym, ap, _∙_}
 use Rattle.boundary.specs.Packed.{readingCode}
-use Rattle.records.specs.Numbers.{readingPlace}
 use borrow.Author.Needs.{needs}
 use Rattle.boundary.proofs.codes.reading.Statement.{statement}
 use Rattle.boundary.proofs.codes.reading.Tie as tie

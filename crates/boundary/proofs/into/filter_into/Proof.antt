@@ -1,6 +1,6 @@
 -- `into::filter_into`: settled and open are written, the other two leave the buffer.
 use Prim.Native.Nat.{_+_, _*_, _≤_}
-use mathlib.Core.Path.{_≡_, refl}
+use mathlib.Core.Path.{refl}
 use lib.ListN.{length}
 use Rattle.year.specs.Sound.{Sound}
 use Rattle.boundary.proofs.IntoLaws.{filter-ends, filtered-fits}

@@ -1,6 +1,6 @@
 -- `into::narrow_by`: the tests of the kind, one after the other, as in the definition.
 use borrow.Author.Tests.{eq-eqb, ne-eqb}
-use mathlib.Core.Path.{_≡_, refl}
+use mathlib.Core.Path.{refl}
 use Rattle.boundary.specs.Calls.{narrowOf}
 use borrow.Author.Needs.{needs}
 use Rattle.boundary.proofs.into.narrow_by.Statement.{statement}

@@ -1,5 +1,5 @@
 -- `into::narrow_into`: what is done is written, every refusal leaves the buffer.
-use mathlib.Core.Path.{_≡_, refl}
+use mathlib.Core.Path.{refl}
 use Rattle.boundary.proofs.IntoLaws.{narrow-ends}
 use borrow.Author.Needs.{needs}
 use Rattle.boundary.proofs.into.narrow_into.Statement.{statement}

@@ -1,6 +1,6 @@
 -- Between any two calls the state holds the definition's step, so the next rules may run. Where a rule up to 9 finds no plan, the others do nothing.
 use mathlib.Core.List.{List}
-use mathlib.Core.Path.{_≡_, sym, ap, _∙_}
+use mathlib.Core.Path.{sym, ap, _∙_}
 use Prim.Native.Nat.{ℕ}
 use borrow.Author.Needs.{needs}
 use borrow.Author.Tests.{ne-eqb}

@@ -1,6 +1,6 @@
 -- The year's own columns give its lists and its sums.
 use mathlib.Core.Bool.{false}
-use mathlib.Core.Path.{_≡_, ap, _∙_}
+use mathlib.Core.Path.{ap, _∙_}
 use borrow.Author.Needs.{needs}
 use Rattle.year.specs.declared.Columns.{Columns}
 use Rattle.year.proofs.PartLaws.{columns-fit, sums-apart}
