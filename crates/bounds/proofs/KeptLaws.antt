@@ -1,11 +1,9 @@
 -- A rule on bounds keeps the courses, and so the sums and all credits.
-use Prim.Native.Nat.{ℕ, zero, suc, _≤_, _<_}
+use Prim.Native.Nat.{ℕ, _≤_, _<_}
 use mathlib.Core.List.{List, []}
 use mathlib.Core.Path.{_≡_, refl, ap, ap₂, _∙_, fun-ext}
 use native.Mathlib.Omega.{arith}
-use lib.Dec.{eqb}
 use lib.ListN.{getD}
-use Rattle.theory.specs.Choice.{choose-any}
 use Rattle.theory.specs.Tab.{tab}
 use Rattle.year.specs.Year.{zeroCourse, weight}
 use Rattle.year.specs.Sums.{allCredits, sumsTo, sumsAt}
@@ -17,7 +15,7 @@ use Rattle.rules.specs.Step.{put, overTo}
 use Rattle.rules.specs.Round.{bounded}
 use Rattle.rules.specs.declared.Step.{Step}
 use Rattle.rules.specs.declared.Outcome.{Outcome}
-use Rattle.rules.proofs.Whole.{Whole, credits-same}
+use Rattle.rules.proofs.Whole.{Whole, over-keeps, credits-same}
 
 -- a rule that leaves a whole year at every term
 abbrev pub Tightens : (Year → ℕ → Outcome) → Type 0
@@ -45,19 +43,15 @@ kept-then x y z a b = record {
 -- over the first m terms
 pub kept-over : (rule : Year → ℕ → Outcome) → Tightens rule → (s : Step) → Sound (s .year) → (m : ℕ) → m ≤ s .year .terms
     → Kept (s .year) (overTo (bounded rule) s m .year)
-unfolding overTo
-kept-over rule law s a zero h = kept-rest (s .year) a
-kept-over rule law s a (suc m) h =
-    let b = kept-over rule law s a m (omega arith) in
-    let y = overTo (bounded rule) s m .year in
-    choose-any (λ (q : Step). Kept (s .year) (q .year)) (eqb (overTo (bounded rule) s m .rule) 0) _ (overTo (bounded rule) s m)
-    (record {
-      sound = law y m (b .sound) (omega (arith, b .terms-same)) .sound;
+kept-over rule law s a m h =
+    over-keeps (Kept (s .year)) (bounded rule) s m
+    (λ z k l b. record {
+      sound = law z k (b .sound) (omega (arith, b .terms-same)) .sound;
       terms-same = b .terms-same;
       courses-same = b .courses-same;
       course-same = b .course-same;
     })
-    b
+    (kept-rest (s .year) a)
 
 -- a year that has these courses alone
 abbrev alone : List Course → Year

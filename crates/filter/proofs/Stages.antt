@@ -1,13 +1,11 @@
 -- The state between two rules of a round: it holds the definition's step, whose year is sound and has the same weights.
-use Prim.Native.Nat.{ℕ, zero, suc, _≤_, _<_}
+use Prim.Native.Nat.{ℕ, _<_}
 use mathlib.Core.Bool.{false}
 use mathlib.Core.List.{List}
 use mathlib.Core.Path.{_≡_, refl, sym, ap, _∙_}
-use native.Mathlib.Nat.{le-refl}
 use native.Mathlib.Omega.{arith}
 use lib.Dec.{eqb}
 use lib.ListN.{getD}
-use Rattle.theory.specs.Choice.{choose-any}
 use Rattle.year.specs.Year.{weight}
 use Rattle.year.specs.Sums.{allCredits}
 use Rattle.year.specs.Sound.{Sound}
@@ -22,7 +20,7 @@ use Rattle.rules.specs.Packing.{rule11}
 use Rattle.rules.specs.Round.{bounded}
 use Rattle.rules.specs.declared.Step.{Step}
 use Rattle.rules.specs.declared.State.{State}
-use Rattle.rules.proofs.Whole.{Whole, next-dead, over-dead, credits-same}
+use Rattle.rules.proofs.Whole.{Whole, over-keeps, next-dead, over-dead, credits-same}
 use Rattle.rules.proofs.Holding.{year-held, step-held, sound-held, held-self}
 use Rattle.rules.proofs.Steps.{whole-1, whole-2, whole-3, whole-4, whole-5, whole-6, whole-7, whole-8, whole-9, whole-10}
 use Rattle.filter.specs.Halves.{rules1to2, rules4to5, rules6to9, firstHalf, secondHalf}
@@ -52,18 +50,11 @@ same-step y z s a w = same-trans y z (s .year) a (record { sound = w .sound; ter
 abbrev Law : (Year → ℕ → Step) → Type 0
 Law f = (z : Year) (j : ℕ) → Sound z → j < z .terms → Whole z (f z j)
 
-same-over : (f : Year → ℕ → Step) (y : Year) (s : Step) → Law f → Same y (s .year) → (m : ℕ) → m ≤ s .year .terms → Same y (overTo f s m .year)
-unfolding overTo
-same-over f y s law a zero h = a
-same-over f y s law a (suc m) h =
-    let q = overTo f s m in
-    let b = same-over f y s law a m (omega arith) in
-    choose-any (λ (x : Step). Same y (x .year)) (eqb (q .rule) 0) _ q
-    (same-step y (q .year) (f (q .year) m) b (law (q .year) m (b .sound) (omega (arith, a .terms-same, b .terms-same))))
-    b
-
 same-terms : (f : Year → ℕ → Step) (y : Year) (s : Step) → Law f → Same y (s .year) → Same y (overTerms f s .year)
-same-terms f y s law a = same-over f y s law a (s .year .terms) (le-refl (s .year .terms))
+same-terms f y s law a =
+    over-keeps (Same y) f s (s .year .terms)
+    (λ z k l b. same-step y z (f z k) b (law z k (b .sound) (omega (arith, a .terms-same, b .terms-same))))
+    a
 
 module _ (y : Year) (p : Step) (a : Same y (p .year)) where
   pub same-1-2 : Same y (rules1to2 p .year)

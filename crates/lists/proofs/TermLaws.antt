@@ -13,7 +13,7 @@ use Rattle.theory.specs.Sum.{pick, sum, sum-term-le}
 use Rattle.theory.specs.Tab.{tab, length-tab}
 use Rattle.year.specs.Year.{termAt, courseAt, weight, isOpen, lowCredits, highCredits, lowCount, highCount}
 use Rattle.year.specs.Sums.{openWeight, fixedCredits, openCredits, possibleCredits, openOne, fixedCount, openCount, sumsTo, sumsAt}
-use Rattle.year.specs.Parts.{listsOf, bare, yearOf}
+use Rattle.year.specs.Parts.{listsOf, bare, yearFrom}
 use Rattle.year.specs.Sound.{Sound}
 use Rattle.year.specs.declared.Course.{Course}
 use Rattle.year.specs.declared.Sums.{Sums}
@@ -90,12 +90,12 @@ module _ (ws : List ℕ) (s : State) (w : Judge) (j : ℕ) (h : j < s .terms) (s
         ∙ sym after-is
 
     -- the year of the new lists
-    year-after : yearOf (s .terms) (s .courses) (s .term) ws (k .list) ≡ t .year
+    year-after : yearFrom (s .terms) (s .courses) (s .term) ws (k .list) ≡ t .year
     year-after =
-        (λ i. yearOf (sym (whole .terms-same) i) (sym (whole .courses-same) i) (sym (o .term-same) i) ws (list i))
+        (λ i. yearFrom (sym (whole .terms-same) i) (sym (whole .courses-same) i) (sym (o .term-same) i) ws (list i))
         ∙ year-is (t .year) ws (whole .sound) (weights-stay ws s t whole)
 
-    sound-after : Sound (yearOf (s .terms) (s .courses) (s .term) ws (k .list))
+    sound-after : Sound (yearFrom (s .terms) (s .courses) (s .term) ws (k .list))
     sound-after = subst Sound (sym year-after) (whole .sound)
 
     -- what sums over them ask

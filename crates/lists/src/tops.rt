@@ -8,7 +8,7 @@ ghost use lib.ListN.{length};
 ghost use Rattle.theory.specs.Sum.{pick};
 ghost use Rattle.theory.specs.Tab.{tab};
 ghost use Rattle.year.specs.Year.{isOpen};
-ghost use Rattle.year.specs.Parts.{coursesOf};
+ghost use Rattle.year.specs.Parts.{coursesFrom};
 ghost use Rattle.lists.specs.Tops.{topWith, topTo};
 
 // The weight at hand, or the course's if that is open in term k and heavier.
@@ -38,7 +38,7 @@ fn with_course(top: [u32; 16], c: Course) -> [u32; 16]
 // All sixteen, over the first n courses.
 pub fn tops(weight: &[u32], list: &[u16], n: usize) -> [u32; 16]
     requires { ⌜ (n ≤ 64) × (n ≤ length (now weight)) × (n ≤ length (now list)) ⌝ }
-    ensures { λ r. ⌜ r ≡ tab 16 (topTo (coursesOf (now (weight .entry)) (now (list .entry))) n) ⌝ }
+    ensures { λ r. ⌜ r ≡ tab 16 (topTo (coursesFrom (now (weight .entry)) (now (list .entry))) n) ⌝ }
 {
     let mut top = [0u32; 16];
     for i in 0..n {

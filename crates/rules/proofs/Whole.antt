@@ -82,6 +82,15 @@ whole-over f n y s law a (suc m) h =
     let b = whole-over f n y s law a m (omega arith) in
     whole-next f y (overTo f s m) m b (law (overTo f s m .year) m (b .sound) (b .terms-same) (b .courses-same) (omega arith))
 
+-- what every step keeps of a year, steps in a row keep
+pub over-keeps : (P : Year → Type 0) (f : Year → ℕ → Step) (s : Step) (m : ℕ) → ((z : Year) (k : ℕ) → k < m → P z → P (f z k .year)) → P (s .year) → P (overTo f s m .year)
+unfolding overTo
+over-keeps P f s zero h a = a
+over-keeps P f s (suc m) h a =
+    let q = overTo f s m in
+    let b = over-keeps P f s m (λ z k l. h z k (omega arith)) a in
+    choose-case (λ (x : Step). P (x .year)) (eqb (q .rule) 0) _ q (λ e. h (q .year) m (omega arith) b) (λ e. b)
+
 -- a step that found no plan is the last
 pub next-dead : (f : Year → ℕ → Step) (s : Step) (k : ℕ) → eqb (s .rule) 0 ≡ false → next f s k ≡ s
 next-dead f s k e = rw e

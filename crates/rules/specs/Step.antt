@@ -9,7 +9,7 @@ use Rattle.theory.specs.Choice.{choose}
 use Rattle.theory.specs.Tab.{tab}
 use Rattle.year.specs.Year.{withTerm, placed, struck}
 use Rattle.year.specs.Sums.{sumsAt}
-use Rattle.year.specs.Parts.{listsOf, yearOf}
+use Rattle.year.specs.Parts.{listsOf, yearFrom}
 use Rattle.year.specs.declared.Term.{Term}
 use Rattle.year.specs.declared.Tight.{Tight}
 use Rattle.year.specs.declared.Year.{Year}
@@ -88,7 +88,7 @@ held p = record {
 }
 
 abbrev pub yearIn : List ℕ → State → Year
-yearIn w s = yearOf (s .terms) (s .courses) (s .term) w (s .list)
+yearIn w s = yearFrom (s .terms) (s .courses) (s .term) w (s .list)
 
 abbrev pub stepIn : List ℕ → State → Step
 stepIn w s = step (yearIn w s) (s .altered) (s .rule)

@@ -8,7 +8,7 @@ ghost use Prim.Native.Nat.{ℕ, _≤_, _<_};
 ghost use lib.ListN.{length};
 ghost use Rattle.year.specs.Year.{zeroCourse};
 ghost use Rattle.year.specs.Sound.{Sound};
-ghost use Rattle.year.specs.Parts.{columnsOf, courseFrom, coursesOf};
+ghost use Rattle.year.specs.Parts.{columnsOf, courseFrom, coursesFrom};
 
 // The year's courses, apart: all entries are 0 past the last.
 pub fn apart(y: Year) -> Columns
@@ -38,7 +38,7 @@ pub fn course(weight: &[u32], list: &[u16], i: usize) -> Course
 pub fn together(weight: &[u32], list: &[u16], n: usize) -> [Course; 64]
     requires { ⌜ (n ≤ 64) × (n ≤ length (now weight)) × (n ≤ length (now list)) ⌝ }
     requires { ⌜ ((i : ℕ) → n ≤ i → i < 64 → courseFrom (now weight) (now list) i ≡ zeroCourse) ⌝ }
-    ensures { λ r. ⌜ r ≡ coursesOf (now (weight .entry)) (now (list .entry)) ⌝ }
+    ensures { λ r. ⌜ r ≡ coursesFrom (now (weight .entry)) (now (list .entry)) ⌝ }
 {
     let z = Course {
         weight: Credits(0),

@@ -17,7 +17,7 @@ use Rattle.theory.specs.Walk.{Table, Reached, walk}
 use Rattle.rules.specs.Spares.{blocked, charged, stops}
 use Rattle.rules.specs.declared.Until.{Until}
 use Rattle.year.specs.Sums.{fixedWeight, fixedOne, openOne, sumsTo}
-use Rattle.year.specs.Parts.{bare, coursesOf}
+use Rattle.year.specs.Parts.{bare, coursesFrom}
 use Rattle.year.specs.declared.Course.{Course}
 use Rattle.year.specs.declared.Sums.{Sums}
 use Rattle.year.proofs.SumLaws.{weights-to, possible-to, counts-to}
@@ -116,10 +116,10 @@ module _ (w l : List ℕ) (j n : ℕ) (s : Sums) (e : s ≡ sumsTo (bare w l) j 
       (omega (arith, all, possible-to (bare w l) j n), omega arith, omega arith)
 
   -- where none is open, no course is
-  none-open : s .free .0 ≡ 0 → (i : ℕ) → i < n → openIn (coursesOf w l) j i ≡ false
-  none-open z i h = go (openIn (coursesOf w l) j i) refl
+  none-open : s .free .0 ≡ 0 → (i : ℕ) → i < n → openIn (coursesFrom w l) j i ≡ false
+  none-open z i h = go (openIn (coursesFrom w l) j i) refl
     where
-      go : (b : Bool) → openIn (coursesOf w l) j i ≡ b → openIn (coursesOf w l) j i ≡ false
+      go : (b : Bool) → openIn (coursesFrom w l) j i ≡ b → openIn (coursesFrom w l) j i ≡ false
       go false p = p
       go true p =
           let o : s .free .0 ≡ sum n (openOne (bare w l) j) = ap (λ (x : Sums). x .free .0) e in
@@ -128,9 +128,9 @@ module _ (w l : List ℕ) (j n : ℕ) (s : Sums) (e : s ≡ sumsTo (bare w l) j 
 
   -- and the walk over none ends as it began
   pub none-walked : (u : Until) (o : List ℕ) (a : Walk) → n ≤ length o → ((k : ℕ) → k < n → getD o k 0 < n) → s .free .0 ≡ 0
-      → walkOver (coursesOf w l) j u (take n o) a ≡ reached a
+      → walkOver (coursesFrom w l) j u (take n o) a ≡ reached a
   unfolding walk
   none-walked u o a long within z =
-      let none = keep-none (openIn (coursesOf w l) j) (take n o)
+      let none = keep-none (openIn (coursesFrom w l) j) (take n o)
       (λ k h. let q = simp length-take at h in let b : k < n = omega (arith, q) in rw (getD-take n o k 0 b) (none-open z (getD o k 0) (within k b))) in
       rw none refl

@@ -16,7 +16,7 @@ ghost use mathlib.Core.Bool.{false};
 ghost use Prim.Native.Nat.{ℕ, _+_, _≤_, _<_};
 ghost use lib.ListN.{length, getD, take};
 ghost use Rattle.year.specs.Sums.{sumsTo};
-ghost use Rattle.year.specs.Parts.{bare, coursesOf, sumsIn};
+ghost use Rattle.year.specs.Parts.{bare, coursesFrom, sumsIn};
 ghost use Rattle.rules.specs.Spares.{stops};
 ghost use Rattle.bounds.specs.Turns.{overFirst};
 ghost use Rattle.walks.specs.Walking.{stepped, walkOver, reached, begunOf, untilOf, endedOf, walkedAt};
@@ -75,7 +75,7 @@ fn walked(
     requires { ⌜ (n ≤ 64) × (n ≤ length (now weight)) × (n ≤ length (now list)) × (n ≤ length (now order)) × (j < 16) ⌝ }
     requires { ⌜ (w .credits ≤ 64000) × (w .count ≤ 64) × (w .done ≡ false) ⌝ }
     requires { ⌜ ((k : ℕ) → k < n → getD (now order) k 0 < n) × ((i : ℕ) → i < n → getD (now weight) i 0 ≤ 1000) ⌝ }
-    ensures { λ r. ⌜ reached r ≡ walkOver (coursesOf (now (weight .entry)) (now (list .entry))) j until (take n (now (order .entry))) w ⌝ }
+    ensures { λ r. ⌜ reached r ≡ walkOver (coursesFrom (now (weight .entry)) (now (list .entry))) j until (take n (now (order .entry))) w ⌝ }
 {
     let mut z = w;
     let mut k = 0;
@@ -155,7 +155,7 @@ fn by_walk(
     requires { ⌜ (n ≤ 64) × (n ≤ length (now weight)) × (n ≤ length (now list)) × (n ≤ length (now order)) × (j < 16) ⌝ }
     requires { ⌜ ((k : ℕ) → k < n → getD (now order) k 0 < n) × ((i : ℕ) → i < n → getD (now weight) i 0 ≤ 1000) ⌝ }
     requires { ⌜ u ≡ sumsTo (bare (now weight) (now list)) j n ⌝ }
-    ensures { λ r. ⌜ r ≡ endedOf rule t (walkOver (coursesOf (now (weight .entry)) (now (list .entry))) j (untilOf rule t) (take n (now (order .entry))) (begunOf spare u)) ⌝ }
+    ensures { λ r. ⌜ r ≡ endedOf rule t (walkOver (coursesFrom (now (weight .entry)) (now (list .entry))) j (untilOf rule t) (take n (now (order .entry))) (begunOf spare u)) ⌝ }
 {
     let w = begun(spare, u);
     if u.free.0 == 0 {
@@ -183,7 +183,7 @@ pub fn walk_rule(
     requires { ⌜ (n ≤ 64) × (n ≤ length (now weight)) × (n ≤ length (now list)) × (n ≤ length (now order)) ⌝ }
     requires { ⌜ ((k : ℕ) → k < n → getD (now order) k 0 < n) × ((i : ℕ) → i < n → getD (now weight) i 0 ≤ 1000) ⌝ }
     requires { ⌜ ((k : ℕ) → k < 16 → sumsIn sums k ≡ sumsTo (bare (now weight) (now list)) k n) ⌝ }
-    ensures { λ r. ⌜ r ≡ overFirst (walkedAt rule sums (coursesOf (now (weight .entry)) (now (list .entry))) (now (order .entry)) n) b m ⌝ }
+    ensures { λ r. ⌜ r ≡ overFirst (walkedAt rule sums (coursesFrom (now (weight .entry)) (now (list .entry))) (now (order .entry)) n) b m ⌝ }
 {
     let mut z = b;
     let term = b.term;

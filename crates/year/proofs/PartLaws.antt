@@ -12,7 +12,7 @@ use Rattle.theory.specs.Bits.{has, has-below, has-power}
 use Rattle.theory.specs.Tab.{tab, length-tab, getD-tab, tab-cong, tab-getD}
 use Rattle.year.specs.Year.{courseOf, zeroCourse, courseAt, weight, list, isFixed, isOpen}
 use Rattle.year.specs.Sums.{fixedWeight, openWeight, fixedOne, openOne, sumsTo, sumsAt, noSums}
-use Rattle.year.specs.Parts.{weightsOf, listsOf, columnsOf, courseFrom, coursesOf, yearOf, bare}
+use Rattle.year.specs.Parts.{weightsOf, listsOf, columnsOf, courseFrom, coursesFrom, yearFrom, bare}
 use Rattle.year.specs.Sound.{Sound}
 use Rattle.year.specs.declared.Columns.{Columns}
 use Rattle.year.specs.declared.Course.{Course}
@@ -20,18 +20,18 @@ use Rattle.year.specs.declared.Year.{Year}
 
 -- ---- the courses
 
-pub course-in : (w l : List ℕ) (i : ℕ) → i < 64 → getD (coursesOf w l) i zeroCourse ≡ courseFrom w l i
-unfolding coursesOf
+pub course-in : (w l : List ℕ) (i : ℕ) → i < 64 → getD (coursesFrom w l) i zeroCourse ≡ courseFrom w l i
+unfolding coursesFrom
 course-in w l i h = getD-tab 64 (courseFrom w l) zeroCourse i h
 
 -- a year's own lists, with weights that are its own
-pub parts-are : (y : Year) (w : List ℕ) → length (y .course) ≡ 64 → ((i : ℕ) → i < 64 → getD w i 0 ≡ weight y i) → coursesOf w (listsOf y) ≡ y .course
-unfolding coursesOf
+pub parts-are : (y : Year) (w : List ℕ) → length (y .course) ≡ 64 → ((i : ℕ) → i < 64 → getD w i 0 ≡ weight y i) → coursesFrom w (listsOf y) ≡ y .course
+unfolding coursesFrom
 parts-are y w e h =
     tab-cong 64 (courseFrom w (listsOf y)) (courseAt y) (λ i l. ap₂ courseOf (h i l) (getD-tab 64 (list y) 0 i l))
     ∙ tab-getD (y .course) zeroCourse 64 e
 
-pub year-is : (y : Year) (w : List ℕ) → Sound y → ((i : ℕ) → i < 64 → getD w i 0 ≡ weight y i) → yearOf (y .terms) (y .courses) (y .term) w (listsOf y) ≡ y
+pub year-is : (y : Year) (w : List ℕ) → Sound y → ((i : ℕ) → i < 64 → getD w i 0 ≡ weight y i) → yearFrom (y .terms) (y .courses) (y .term) w (listsOf y) ≡ y
 year-is y w s h = λ i. record { terms = y .terms; courses = y .courses; term = y .term; course = parts-are y w (s .course-length) h i }
 
 pub own-weights : (y : Year) (i : ℕ) → i < 64 → getD (weightsOf y) i 0 ≡ weight y i
@@ -39,8 +39,8 @@ own-weights y i h = getD-tab 64 (weight y) 0 i h
 
 -- ---- a sound year in parts
 
-module _ (m n : ℕ) (t : List _) (w l : List ℕ) (s : Sound (yearOf m n t w l)) (i : ℕ) (h : i < n) where
-  read : courseAt (yearOf m n t w l) i ≡ courseFrom w l i
+module _ (m n : ℕ) (t : List _) (w l : List ℕ) (s : Sound (yearFrom m n t w l)) (i : ℕ) (h : i < n) where
+  read : courseAt (yearFrom m n t w l) i ≡ courseFrom w l i
   read = course-in w l i (omega (arith, s))
 
   pub weight-fits : getD w i 0 ≤ 1000
@@ -97,8 +97,8 @@ module _ (y : Year) (q : Columns) (s : Sound y) (e : q ≡ columnsOf y) where
         (rw (weight-is i b) (s .course-sound i h .weight-most), rw (list-is i b) (s .course-sound i h .list-within)),
   )
 
-  together : coursesOf (q .weight) (q .list) ≡ y .course
-  together = ap (coursesOf (q .weight)) (ap (λ (z : Columns). z .list) e) ∙ parts-are y (q .weight) (s .course-length) weight-is
+  together : coursesFrom (q .weight) (q .list) ≡ y .course
+  together = ap (coursesFrom (q .weight)) (ap (λ (z : Columns). z .list) e) ∙ parts-are y (q .weight) (s .course-length) weight-is
 
   pub sums-apart : tab 16 (λ j. sumsTo (bare (q .weight) (q .list)) j (y .courses)) ≡ tab 16 (sumsAt y)
   unfolding sumsAt

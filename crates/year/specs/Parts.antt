@@ -27,15 +27,15 @@ columnsOf y = record { weight = weightsOf y; list = listsOf y }
 abbrev pub courseFrom : List ℕ → List ℕ → ℕ → Course
 courseFrom w l i = courseOf (getD w i 0) (getD l i 0)
 
-unfoldable pub coursesOf : List ℕ → List ℕ → List Course
-coursesOf w l = tab 64 (courseFrom w l)
+unfoldable pub coursesFrom : List ℕ → List ℕ → List Course
+coursesFrom w l = tab 64 (courseFrom w l)
 
-abbrev pub yearOf : ℕ → ℕ → List Term → List ℕ → List ℕ → Year
-yearOf m n t w l = record { terms = m; courses = n; term = t; course = coursesOf w l }
+abbrev pub yearFrom : ℕ → ℕ → List Term → List ℕ → List ℕ → Year
+yearFrom m n t w l = record { terms = m; courses = n; term = t; course = coursesFrom w l }
 
 -- a year of which only the courses are asked
 abbrev pub bare : List ℕ → List ℕ → Year
-bare w l = yearOf 0 0 [] w l
+bare w l = yearFrom 0 0 [] w l
 
 -- ---- entries of an array of terms, and of one of sums
 

@@ -4,7 +4,7 @@ use mathlib.Core.Path.{_≡_, refl, sym, ap, ap₂, _∙_}
 use native.Mathlib.Omega.{arith}
 use borrow.Author.Needs.{needs}
 use Rattle.theory.specs.Tab.{tab}
-use Rattle.year.specs.Parts.{coursesOf}
+use Rattle.year.specs.Parts.{coursesFrom}
 use Rattle.year.proofs.PartLaws.{course-in}
 use Rattle.lists.specs.Tops.{topTo, topWith}
 use Rattle.lists.proofs.TopLaws.{tops-more}
@@ -12,7 +12,7 @@ use Rattle.lists.proofs.tops.tops.Statement.{statement}
 use Rattle.lists.proofs.tops.tops.Tie as tie
 
 abbrev Inv-loop : tie.InvT-loop
-Inv-loop weight list n top₀ i₀ top i = (i ≤ n) × (top ≡ tab 16 (topTo (coursesOf weight list) i))
+Inv-loop weight list n top₀ i₀ top i = (i ≤ n) × (top ≡ tab 16 (topTo (coursesFrom weight list) i))
 
 abbrev μ-loop : tie.MeasureT-loop
 μ-loop weight list n top₀ i₀ top i = n - i
@@ -38,13 +38,13 @@ loop-again c = let q = c .before in
     let l = q .before .before in
     let a = l .before .before .before .args in
     let read = q .course .ensures ∙ sym (course-in (a .weight .now) (a .list .now) (l .loop .i) (omega arith)) in
-    (search needs, c .with-course .ensures ∙ ap₂ (λ t x. tab 16 (topWith t x)) (l .loop .inv .1) read ∙ tops-more (coursesOf (a .weight .now) (a .list .now)) (l .loop .i))
+    (search needs, c .with-course .ensures ∙ ap₂ (λ t x. tab 16 (topWith t x)) (l .loop .inv .1) read ∙ tops-more (coursesFrom (a .weight .now) (a .list .now)) (l .loop .i))
 
 returns : tie.Need-returns Inv-loop μ-loop
 returns c = let l = c .before in
     let a = l .before .before .before .args in
     let is : l .loop .i ≡ a .n = omega arith in
-    l .loop .inv .1 ∙ ap (λ n. tab 16 (topTo (coursesOf (a .weight .now) (a .list .now)) n)) is
+    l .loop .inv .1 ∙ ap (λ n. tab 16 (topTo (coursesFrom (a .weight .now) (a .list .now)) n)) is
 
 pub tops-spec : {M : Type 1} → statement M
 tops-spec =

@@ -6,7 +6,7 @@ use lib.ListN.{length, replicate, set, length-replicate, getD-replicate}
 use borrow.Author.Needs.{needs}
 use Rattle.theory.specs.Tab.{fill, fill-more, fill-front, length-fill}
 use Rattle.year.specs.Year.{zeroCourse}
-use Rattle.year.specs.Parts.{courseFrom, coursesOf}
+use Rattle.year.specs.Parts.{courseFrom, coursesFrom}
 use Rattle.totals.proofs.parts.together.Statement.{statement}
 use Rattle.totals.proofs.parts.together.Tie as tie
 
@@ -45,7 +45,7 @@ loop-again c =
     (search needs, ap₂ (λ r v. set r (l .loop .i) v) (l .loop .inv .1) (c .course .ensures) ∙ sym (fill-more (courseFrom (a .weight .now) (a .list .now)) (replicate 64 zeroCourse) (l .loop .i)))
 
 returns : tie.Need-returns Inv-loop μ-loop
-unfolding coursesOf
+unfolding coursesFrom
 returns c =
     let l = c .before in
     let b = l .before .before .before in

@@ -3,7 +3,7 @@ use mathlib.Core.Path.{_≡_, refl, sym, ap, ap₂, _∙_}
 use native.Mathlib.Omega.{arith}
 use lib.ListN.{take}
 use borrow.Author.Needs.{needs}
-use Rattle.year.specs.Parts.{coursesOf}
+use Rattle.year.specs.Parts.{coursesFrom}
 use Rattle.walks.specs.Walking.{walkOver, endedOf, untilOf}
 use Rattle.walks.specs.declared.Walk.{Walk}
 use Rattle.walks.proofs.WalkLaws.{sums-small, none-walked}
@@ -24,7 +24,7 @@ returns c =
     let a = b .args in
     let zero : a .u .free .0 ≡ 0 = omega (arith, t .if1 .taken) in
     let none = none-walked (a .weight .now) (a .list .now) (a .j) (a .n) (a .u) (b .pre .1 .1) (untilOf (a .rule) (a .t)) (a .order .now) (g .begun .result) (b .pre .0 .3) (b .pre .1 .0 .0) zero in
-    let cs = coursesOf (a .weight .now) (a .list .now) in
+    let cs = coursesFrom (a .weight .now) (a .list .now) in
     c .ended .ensures
     ∙ ap (endedOf (a .rule) (a .t)) (sym none)
     ∙ ap (λ (x : Walk). endedOf (a .rule) (a .t) (walkOver cs (a .j) (untilOf (a .rule) (a .t)) (take (a .n) (a .order .now)) x)) (g .begun .ensures)
@@ -49,7 +49,7 @@ returns-2 c =
     let u = w .before in
     let g = u .before .before .before in
     let a = g .before .before .before .before .args in
-    let cs = coursesOf (a .weight .now) (a .list .now) in
+    let cs = coursesFrom (a .weight .now) (a .list .now) in
     c .ended2 .ensures
     ∙ ap (endedOf (a .rule) (a .t)) (w .walked .ensures ∙ ap₂ (λ x (z : Walk). walkOver cs (a .j) x (take (a .n) (a .order .now)) z) (u .until .ensures) (g .begun .ensures))
 

@@ -8,7 +8,7 @@ use lib.Dec.{eqb}
 use lib.ListN.{length, take, length-set}
 use borrow.Author.Needs.{needs}
 use Rattle.theory.specs.Tab.{tab, length-tab}
-use Rattle.year.specs.Parts.{coursesOf, termIn, sumsIn}
+use Rattle.year.specs.Parts.{coursesFrom, termIn, sumsIn}
 use Rattle.year.specs.declared.Sums.{Sums}
 use Rattle.year.specs.declared.Term.{Term}
 use Rattle.rules.specs.declared.Outcome.{Outcome}
@@ -22,7 +22,7 @@ use Rattle.walks.proofs.walking.walk_rule.Statement.{statement}
 use Rattle.walks.proofs.walking.walk_rule.Tie as tie
 
 abbrev atTerm : ℕ → List Sums → List ℕ → List ℕ → List ℕ → ℕ → List Term → ℕ → Outcome
-atTerm rule u w l o n = walkedAt rule u (coursesOf w l) o n
+atTerm rule u w l o n = walkedAt rule u (coursesFrom w l) o n
 
 abbrev Inv-loop : tie.InvT-loop
 Inv-loop rule m n weight list order sums z₀ spare₀ j₀ z spare j =
@@ -105,7 +105,7 @@ loop-again c =
     let z = l .loop .z in
     let j = l .loop .j in
     let o = w .by-walk .result in
-    let cs = coursesOf (a .weight .now) (a .list .now) in
+    let cs = coursesFrom (a .weight .now) (a .list .now) in
     let is =
     w .by-walk .ensures
     ∙ ap (λ s. endedOf (a .rule) (termIn (z .term) j) (walkOver cs j (untilOf (a .rule) (termIn (z .term) j)) (take (a .n) (a .order .now)) (begunOf s (sumsIn (a .t5) j)))) (l .loop .inv .3) in (

@@ -5,7 +5,7 @@ use mathlib.Core.Path.{_≡_, sym, ap, _∙_}
 use native.Mathlib.Omega.{arith}
 use lib.ListN.{getD, take, drop}
 use borrow.Author.Needs.{needs}
-use Rattle.year.specs.Parts.{coursesOf}
+use Rattle.year.specs.Parts.{coursesFrom}
 use Rattle.year.proofs.PartLaws.{course-in}
 use Rattle.walks.specs.Walking.{walkOver, stepped}
 use Rattle.walks.proofs.WalkLaws.{left, live-left, goes-on, turn-at, ended-at}
@@ -15,7 +15,7 @@ use Rattle.walks.proofs.walking.walked.Tie as tie
 abbrev Inv-loop : tie.InvT-loop
 Inv-loop weight list order n j until z₀ k₀ z k =
     (k ≤ n)
-    × (left (coursesOf weight list) j until (drop k (take n order)) z ≡ walkOver (coursesOf weight list) j until (take n order) z₀)
+    × (left (coursesFrom weight list) j until (drop k (take n order)) z ≡ walkOver (coursesFrom weight list) j until (take n order) z₀)
     × (z .credits ≤ 64000 + 1000 * k)
     × (z .count ≤ 64 + k)
 
@@ -35,7 +35,7 @@ loop-holds : tie.Need-loop-holds Inv-loop μ-loop
 loop-holds c =
     let b = c .before .before .before in
     let a = b .args in
-    (search needs, live-left (coursesOf (a .weight .now) (a .list .now)) (a .j) (a .until) (take (a .n) (a .order .now)) (a .w) (b .pre .1 .0 .2), search needs, search needs)
+    (search needs, live-left (coursesFrom (a .weight .now) (a .list .now)) (a .j) (a .until) (take (a .n) (a .order .now)) (a .w) (b .pre .1 .0 .2), search needs, search needs)
 
 shared-slice-read-course : tie.Need-shared-slice-read-course Inv-loop μ-loop
 shared-slice-read-course c = omega (arith, on (c .before))
@@ -73,14 +73,14 @@ loop-again c =
     let o = a .order .now in
     let read = c .before .course .ensures ∙ sym (course-in w m (getD o (l .loop .k) 0) (omega (arith, small t))) in
     let step = c .walk-step .ensures .0 ∙ ap (λ x. stepped (l .loop .z) x (a .j) (a .until)) read in
-    let is = turn-at (coursesOf w m) (a .j) (a .until) o (a .n) (l .loop .k) (l .loop .z) (c .walk-step .result) (omega arith) (on t .0) (on t .1) step in
+    let is = turn-at (coursesFrom w m) (a .j) (a .until) o (a .n) (l .loop .k) (l .loop .z) (c .walk-step .result) (omega arith) (on t .0) (on t .1) step in
     (omega (arith, on t), is ∙ l .loop .inv .1, omega (arith, c .walk-step .ensures .1), omega (arith, c .walk-step .ensures .1))
 
 returns : tie.Need-returns Inv-loop μ-loop
 returns c =
     let l = c .before .before in
     let a = l .before .before .before .before .args in
-    sym (ended-at (coursesOf (a .weight .now) (a .list .now)) (a .j) (a .until) (a .order .now) (a .n) (l .loop .k) (l .loop .z) (c .if1 .left)) ∙ l .loop .inv .1
+    sym (ended-at (coursesFrom (a .weight .now) (a .list .now)) (a .j) (a .until) (a .order .now) (a .n) (l .loop .k) (l .loop .z) (c .if1 .left)) ∙ l .loop .inv .1
 
 pub walked-spec : {M : Type 1} → statement M
 walked-spec =
