@@ -9,7 +9,7 @@ use Rattle.year.specs.declared.Narrowing.{Narrowing}
 use Rattle.filter.specs.Filter.{filterOf}
 use Rattle.filter.specs.declared.Answer.{Answer}
 use Rattle.filter.specs.declared.Filtered.{Filtered}
-use Rattle.filter.proofs.RoundLaws.{filter-same}
+use Rattle.filter.proofs.RoundLaws.{filter-narrower}
 use Rattle.boundary.specs.Packed.{answerCode, narrowingCode}
 use Rattle.boundary.specs.Calls.{filterLeft, narrowOf, narrowLeft}
 
@@ -23,7 +23,7 @@ module _ (y : Year) (f : Filtered) (is : f ≡ filterOf y) (r : ℕ) (code : r �
 -- the filtered year is sound, and its records are as many
 pub filtered-fits : (y : Year) (f : Filtered) → f ≡ filterOf y → Sound y → (room : ℕ) → (y .terms + y .courses) * 16 ≤ room → Sound (f .year) × ((f .year .terms + f .year .courses) * 16 ≤ room)
 filtered-fits y f is s room h =
-    let a = filter-same y s in
+    let a = filter-narrower y s in
     rw is (a .sound, rw (a .terms-same, a .courses-same) h)
 
 module _ (y : Year) (kind i j : ℕ) (n : Narrowed) (is : n ≡ narrowOf y kind i j) (r : ℕ) (code : r ≡ narrowingCode (n .answer)) (b o : List ℕ) where

@@ -46,7 +46,7 @@ pub kept-over : (rule : Year → ℕ → Outcome) → Tightens rule → (s : Ste
 kept-over rule law s a m h =
     over-keeps (Kept (s .year)) (bounded rule) s m
     (λ z k l b. record {
-      sound = law z k (b .sound) (omega (arith, b .terms-same)) .sound;
+      sound = law z k (b .sound) (omega (arith, b .terms-same)) .year .sound;
       terms-same = b .terms-same;
       courses-same = b .courses-same;
       course-same = b .course-same;

@@ -15,11 +15,12 @@ use Rattle.year.specs.Sound.{Sound}
 use Rattle.year.specs.declared.Year.{Year}
 use Rattle.year.proofs.PartLaws.{own-weights}
 use Rattle.rules.specs.Step.{live, held, yearIn, stepIn}
-use Rattle.rules.specs.Round.{round}
+use Rattle.rules.specs.Round.{rulesOf, rulesFrom, round}
 use Rattle.rules.specs.declared.Step.{Step}
 use Rattle.rules.specs.declared.State.{State}
 use Rattle.rules.proofs.Measure.{measure, measure-most}
-use Rattle.rules.proofs.Steps.{whole-round}
+use Rattle.rules.proofs.Whole.{Narrower, narrower-self, narrower-then}
+use Rattle.rules.proofs.Passes.{row-narrower, row-last, lawful-part, lawful-from, whole-round}
 use Rattle.walks.specs.Orders.{ordersIn, ordersOf}
 use Rattle.walks.specs.declared.Orders.{Orders}
 use Rattle.walks.proofs.OrderLaws.{orders-are}
@@ -28,7 +29,7 @@ use Rattle.filter.specs.Filter.{filtered, atRest, roundsFrom}
 use Rattle.filter.specs.Halves.{firstHalf, secondHalf, halves}
 use Rattle.filter.specs.declared.Answer.the-variants.{NoPlan}
 use Rattle.filter.specs.declared.Filtered.{Filtered}
-use Rattle.filter.proofs.Stages.{Same, same-self, same-step, same-trans, same-first, dead-first, Own, Stage, stage-sound, stage-self, stage-step, stage-year, stage-credits, stage-rule}
+use Rattle.filter.proofs.Stages.{Own, Stage, stage-sound, stage-self, stage-step, stage-year, stage-credits, stage-rule}
 use Rattle.filter.proofs.RoundLaws.{left, dies, rests, goes-on, round-falls}
 
 -- after n rounds, each of which altered something: what is left to do from the year at hand gives what the whole filtering
@@ -36,7 +37,7 @@ use Rattle.filter.proofs.RoundLaws.{left, dies, rests, goes-on, round-f
 pub record Going (y : Year) (w : List ℕ) (o : Orders) (s : State) (n : ℕ) : Type 0 where
   pub from : roundsFrom 1025985 y y 0 ≡ roundsFrom (left n) y (yearIn w s) n
   pub few : measure (yearIn w s) + n ≤ 1025984
-  pub same : Same y (yearIn w s)
+  pub same : Narrower y (yearIn w s)
   pub is : s ≡ held (live (yearIn w s))
   pub orders : (n + 1 ≡ 1 → ⊥) → o ≡ ordersIn w (y .courses)
 
@@ -51,12 +52,12 @@ module _ (y : Year) (w : List ℕ) (sound : Sound y) (e : w ≡ weightsOf y) whe
 
   pub going-start : (o : Orders) (s : State) → s ≡ held (live y) → Going y w o s 0
   going-start o s q =
-      let st : Stage y s (live y) = record { is = q; same = same-self y sound } in
+      let st : Stage y s (live y) = record { is = q; same = narrower-self y sound } in
       let year : yearIn w s ≡ y = stage-year w y own s (live y) st in
       record {
         from = ap (λ (x : Year). roundsFrom 1025985 y x 0) (sym year);
         few = subst (λ (x : Year). measure x + 0 ≤ 1025984) (sym year) (omega (arith, measure-most y sound));
-        same = subst (Same y) (sym year) (same-self y sound);
+        same = subst (Narrower y) (sym year) (narrower-self y sound);
         is = q ∙ ap (λ (x : Year). held (live x)) (sym year);
         orders = λ d. absurd (d refl);
       }
@@ -85,14 +86,23 @@ module _ (y : Year) (w : List ℕ) (sound : Sound y) (e : w ≡ weightsOf y) whe
         ∙ sym (dies y z n round-few (ne-eqb (round z .rule) 0 (λ t. d (q ∙ t))))
         ∙ sym (g .from)
 
+    first-same : Narrower z (firstHalf z .year)
+    unfolding firstHalf
+    first-same = row-narrower (rulesOf 1 5) (lawful-part 1 5) z (live z) (narrower-self z (g .same .sound))
+
+    -- a first half that finds no plan is the round
+    first-last : eqb (firstHalf z .rule) 0 ≡ false → round z ≡ firstHalf z
+    unfolding secondHalf
+    first-last d = halves z ∙ row-last (rulesFrom 6) (lawful-from 6) (firstHalf z) d
+
     module _ (r1 : State) (e1 : r1 ≡ held (firstHalf z)) where
       st1 : Stage y r1 (firstHalf z)
-      st1 = record { is = e1; same = same-trans y z (firstHalf z .year) (g .same) (same-first z (g .same .sound)) }
+      st1 = record { is = e1; same = narrower-then y z (firstHalf z .year) (g .same) first-same }
 
       pub first-ended : (r1 .rule ≡ 0 → ⊥) → (f : Filtered) → f ≡ filtered (NoPlan (r1 .rule) (n + 1)) y → f ≡ roundsFrom 1025985 y y 0
       first-ended d =
           let q = stage-rule w y own r1 (firstHalf z) st1 in
-          let last : round z ≡ firstHalf z = halves z ∙ dead-first (firstHalf z) (ne-eqb (firstHalf z .rule) 0 (λ t. d (q ∙ t))) in
+          let last = first-last (ne-eqb (firstHalf z .rule) 0 (λ t. d (q ∙ t))) in
           ended (r1 .rule) (q ∙ ap (λ (p : Step). p .rule) (sym last)) d
 
       -- what the second half asks
@@ -113,7 +123,7 @@ module _ (y : Year) (w : List ℕ) (sound : Sound y) (e : w ≡ weightsOf y) whe
         st2 : Stage y r2 (round z)
         st2 = record {
           is = e2 ∙ ap (λ (p : Step). held (secondHalf p)) (stage-step w y own r1 (firstHalf z) st1) ∙ ap held (sym (halves z));
-          same = same-step y z (round z) (g .same) (whole-round z (g .same .sound));
+          same = narrower-then y z (round z .year) (g .same) (whole-round z (g .same .sound) .year);
         }
 
         rule-is : r2 .rule ≡ round z .rule
@@ -164,7 +174,7 @@ module _ (y : Year) (w : List ℕ) (sound : Sound y) (e : w ≡ weightsOf y) whe
         second-again d a p q = record {
           from = g .from ∙ goes-on y z n round-few (lives d) (sym altered-is ∙ a) ∙ ap (λ (x : Year). roundsFrom (left (n + 1)) y x (n + 1)) (sym year-is);
           few = omega (arith, g .few, second-falls a);
-          same = subst (Same y) (sym year-is) (st2 .same);
+          same = subst (Narrower y) (sym year-is) (st2 .same);
           is = λ i. record {
             terms = r2 .terms;
             courses = r2 .courses;

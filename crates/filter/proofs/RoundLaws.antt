@@ -9,11 +9,11 @@ use Rattle.year.specs.declared.Year.{Year}
 use Rattle.year.proofs.SoundLaws.{sound-to}
 use Rattle.rules.specs.Round.{round}
 use Rattle.rules.proofs.Measure.{measure}
-use Rattle.rules.proofs.Steps.{whole-round}
+use Rattle.rules.proofs.Whole.{Narrower, narrower-self, narrower-then}
+use Rattle.rules.proofs.Passes.{whole-round}
 use Rattle.filter.specs.Filter.{filtered, atRest, roundsFrom, filterOf}
 use Rattle.filter.specs.declared.Answer.the-variants.{NoPlan}
 use Rattle.filter.specs.declared.Filtered.{Filtered}
-use Rattle.filter.proofs.Stages.{Same, same-self, same-step}
 
 -- what n rounds leave of the paper's 1,025,985
 abbrev pub left : ℕ → ℕ
@@ -45,14 +45,14 @@ round-falls z s a = let w = rw a at (whole-round z s .falls) in omega arith
 -- ---- what is left of the year in the end
 
 module _ (y : Year) (s : Sound y) where
-  pub rounds-same : (k : ℕ) (z : Year) (n : ℕ) → Same y z → Same y (roundsFrom k y z n .year)
+  pub rounds-narrower : (k : ℕ) (z : Year) (n : ℕ) → Narrower y z → Narrower y (roundsFrom k y z n .year)
   unfolding roundsFrom
-  rounds-same zero z n a = a
-  rounds-same (suc k) z n a =
-      let after = same-step y z (round z) a (whole-round z (a .sound)) in
-      go (eqb (round z .rule) 0) (round z .altered) after (rounds-same k (round z .year) (n + 1) after)
+  rounds-narrower zero z n a = a
+  rounds-narrower (suc k) z n a =
+      let after = narrower-then y z (round z .year) a (whole-round z (a .sound) .year) in
+      go (eqb (round z .rule) 0) (round z .altered) after (rounds-narrower k (round z .year) (n + 1) after)
     where
-      go : (d b : Bool) → Same y (round z .year) → Same y (roundsFrom k y (round z .year) (n + 1) .year)
+      go : (d b : Bool) → Narrower y (round z .year) → Narrower y (roundsFrom k y (round z .year) (n + 1) .year)
           → let f : Filtered = elim d [
             | false ↦ filtered (NoPlan (round z .rule) (n + 1)) y
             | true ↦
@@ -60,12 +60,12 @@ module _ (y : Year) (s : Sound y) where
                   | true ↦ roundsFrom k y (round z .year) (n + 1)
                   | false ↦ filtered (atRest (round z .year) (n + 1)) (round z .year)
                 ]
-          ] in Same y (f .year)
-      go false b after on = same-self y s
+          ] in Narrower y (f .year)
+      go false b after on = narrower-self y s
       go true true after on = on
       go true false after on = after
 
   -- a filtering leaves a sound year of as many terms and courses
-  pub filter-same : Same y (filterOf y .year)
+  pub filter-narrower : Narrower y (filterOf y .year)
   unfolding filterOf
-  filter-same = rw (sound-to y s) (rounds-same 1025985 y 0 (same-self y s))
+  filter-narrower = rw (sound-to y s) (rounds-narrower 1025985 y 0 (narrower-self y s))

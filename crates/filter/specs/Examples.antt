@@ -3,29 +3,13 @@
 use Prim.Native.Nat.{ℕ}
 use mathlib.Core.List.{List, [], _∷_}
 use mathlib.Core.Path.{_≡_, refl}
-use Rattle.theory.specs.Sum.{sum}
-use Rattle.theory.specs.Tests.{any, all}
-use Rattle.theory.specs.Tab.{tab}
-use Rattle.theory.specs.Load.{others}
-use Rattle.theory.specs.Order.{rank, orderTo, keep}
-use Rattle.theory.specs.Walk.{walk}
-use Rattle.theory.specs.Packing.{share}
 use Rattle.year.specs.Year.{termOf, courseOf}
-use Rattle.year.specs.Sound.{isSound}
-use Rattle.year.specs.Sums.{fixedCredits, openCredits, fixedCount, openCount, allCredits, isPlaced, allPlaced}
-use Rattle.year.specs.Tight.{creditsWithin, countsWithin}
-use Rattle.year.specs.Imbalance.{largest}
 use Rattle.year.specs.declared.Year.{Year}
-use Rattle.rules.specs.Step.{outcome, overTo}
-use Rattle.rules.specs.Bounds.{rule1, rule2, rule4, rule5}
-use Rattle.rules.specs.Lists.{verdict3, rule3Course, rule3, verdict10, rule10Course, rule10}
-use Rattle.rules.specs.Spares.{spares, blocked, charged, walkOf, down, up, rule6, rule7, rule8, rule9}
-use Rattle.rules.specs.Packing.{shares, rule11}
-use Rattle.rules.specs.Round.{round}
 use Rattle.rules.specs.Examples.{yearOf}
-use Rattle.filter.specs.Filter.{filtered, roundsFrom, filterOf}
+use Rattle.filter.specs.Filter.{filtered, filterOf}
 use Rattle.filter.specs.declared.Filtered.{Filtered}
 use Rattle.filter.specs.declared.Answer.the-variants.{Settled, Open, NoPlan}
+use Rattle.filter.specs.Computing.{computing}
 
 -- ---- examples
 
@@ -65,7 +49,7 @@ abbrev row5 : Example
 row5 = settles (yearOf (termOf 0 5 0 1 ∷ []) (courseOf 5 1 ∷ [])) 2 (yearOf (termOf 5 5 1 1 ∷ []) (courseOf 5 1 ∷ []))
 
 rows : Hold (row1 ∷ row2 ∷ row3 ∷ row4 ∷ row5 ∷ [])
-unfolding sum any all tab others rank orderTo keep walk share isSound fixedCredits openCredits fixedCount openCount allCredits isPlaced allPlaced creditsWithin countsWithin largest outcome overTo rule1 rule2 rule4 rule5 verdict3 rule3Course rule3 verdict10 rule10Course rule10 spares blocked charged walkOf down up rule6 rule7 rule8 rule9 shares rule11 round roundsFrom filterOf
+unfolding computing
 rows = (refl, (refl, (refl, (refl, (refl, tt)))))
 
 -- ---- rules and traps
@@ -155,5 +139,5 @@ abbrev example21 : Example
 example21 = finds-none (yearOf (termOf 0 5 0 2 ∷ termOf 0 5 0 2 ∷ []) (courseOf 2 3 ∷ courseOf 2 3 ∷ courseOf 2 3 ∷ courseOf 4 3 ∷ [])) 11 1
 
 rules-and-traps : Hold (example1 ∷ example2 ∷ example3 ∷ example4 ∷ example5 ∷ example6 ∷ example7 ∷ example8 ∷ example9 ∷ example10 ∷ example11 ∷ example12 ∷ example13 ∷ example14 ∷ example15 ∷ example16 ∷ example17 ∷ example18 ∷ example19 ∷ example20 ∷ example21 ∷ [])
-unfolding sum any all tab others rank orderTo keep walk share isSound fixedCredits openCredits fixedCount openCount allCredits isPlaced allPlaced creditsWithin countsWithin largest outcome overTo rule1 rule2 rule4 rule5 verdict3 rule3Course rule3 verdict10 rule10Course rule10 spares blocked charged walkOf down up rule6 rule7 rule8 rule9 shares rule11 round roundsFrom filterOf
+unfolding computing
 rules-and-traps = (refl, (refl, (refl, (refl, (refl, (refl, (refl, (refl, (refl, (refl, (refl, (refl, (refl, (refl, (refl, (refl, (refl, (refl, (refl, (refl, (refl, tt)))))))))))))))))))))

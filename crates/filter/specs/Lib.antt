@@ -2,5 +2,6 @@
 pub mod Filter
 pub mod Halves
 pub mod Numbers
+pub mod Computing
 pub mod Examples
 pub mod Larger

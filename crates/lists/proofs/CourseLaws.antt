@@ -143,7 +143,7 @@ module _ (w : Judge) (y : Year) (j i : ℕ) (k : Kept) (c : Course) (sound : Sou
   whole = whole-over (judgeCourse w j) (y .courses) y (live y) (lawful w (y .terms) (y .courses) j j-in) (whole-rest y 0 sound) i (omega arith)
 
   inside : i < s .year .courses
-  inside = omega (arith, whole .courses-same)
+  inside = omega (arith, whole .year .courses-same)
 
   -- the course was not altered yet
   course : c ≡ courseAt (s .year) i
@@ -166,7 +166,7 @@ module _ (w : Judge) (y : Year) (j i : ℕ) (k : Kept) (c : Course) (sound : Sou
   is-open d = rw course at (verdict-open w c (termAt y j) (k .fixed) (k .possible) j d)
 
   list-is : (l : ℕ) → set (k .list) i l ≡ listsOf (withList (s .year) i l)
-  list-is l = ap (λ (z : Kept). set (z .list) i l) inv ∙ lists-after (s .year) i l (omega (arith, whole .sound))
+  list-is l = ap (λ (z : Kept). set (z .list) i l) inv ∙ lists-after (s .year) i l (omega (arith, whole .year .sound))
 
   struck-open : v ≡ Struck → isOpen (courseAt (s .year) i) j ≡ true
   struck-open e = is-open (λ q. let z : _≡_ {A = ℕ} 0 1 = cc in omega arith)
@@ -176,22 +176,22 @@ module _ (w : Judge) (y : Year) (j i : ℕ) (k : Kept) (c : Course) (sound : Sou
 
   pub turn-at : Turn w y j i k c
   turn-at = record {
-    p-small = rw (course, fixed-is) (small (s .year) i j (whole .sound) inside);
+    p-small = rw (course, fixed-is) (small (s .year) i j (whole .year .sound) inside);
     stays = λ e. inv ∙ ap (λ b. kept (s .year) b j) (sym (or-false (s .altered))) ∙ after Stays e;
-    is-listed = λ e. rw course (has-le (list (s .year) i) j (lists-it (s .year) i j (whole .sound) inside (struck-open e)));
-    is-possible = λ e. rw (course, possible-is) (weight-le (s .year) i j (whole .sound) inside (struck-open e));
+    is-listed = λ e. rw course (has-le (list (s .year) i) j (lists-it (s .year) i j (whole .year .sound) inside (struck-open e)));
+    is-possible = λ e. rw (course, possible-is) (weight-le (s .year) i j (whole .year .sound) inside (struck-open e));
     strikes = λ e p q.
         kept-is _ (struck (s .year) i j) _ j
         (ap₂ (λ (x : Course) l. set (k .list) i (x .list - l)) course q ∙ list-is (list (s .year) i - 2 ^ j))
-        (fixed-is ∙ sym (struck-fixed (s .year) i j (whole .sound) inside (struck-open e)))
-        (ap₂ (λ p (x : Course). p - x .weight .0) possible-is course ∙ sym (struck-possible (s .year) i j (whole .sound) inside (struck-open e)))
+        (fixed-is ∙ sym (struck-fixed (s .year) i j (whole .year .sound) inside (struck-open e)))
+        (ap₂ (λ p (x : Course). p - x .weight .0) possible-is course ∙ sym (struck-possible (s .year) i j (whole .year .sound) inside (struck-open e)))
         (sym (or-true (s .altered)))
         ∙ after Struck e;
     fixes = λ e p q.
         kept-is _ (placed (s .year) i j) _ j
         (ap (set (k .list) i) q ∙ list-is (2 ^ j))
-        (ap₂ (λ p (x : Course). p + x .weight .0) fixed-is course ∙ sym (placed-fixed (s .year) i j (whole .sound) inside (fixed-open e)))
-        (possible-is ∙ sym (placed-possible (s .year) i j (whole .sound) inside (fixed-open e)))
+        (ap₂ (λ p (x : Course). p + x .weight .0) fixed-is course ∙ sym (placed-fixed (s .year) i j (whole .year .sound) inside (fixed-open e)))
+        (possible-is ∙ sym (placed-possible (s .year) i j (whole .year .sound) inside (fixed-open e)))
         (sym (or-true (s .altered)))
         ∙ after Fixed e;
   }

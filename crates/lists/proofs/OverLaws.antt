@@ -101,7 +101,7 @@ module _ (rule : Year → ℕ → Step) (l : OnLists rule) (ws : List ℕ) (s : 
   year-same = ap (λ (x : Step). x .year) (over-joined rule (stepIn ws s) alive j)
 
   sound-same : Sound (p .year)
-  sound-same = rw year-same (whole-at .sound)
+  sound-same = rw year-same (whole-at .year .sound)
 
   weights-same : (i : ℕ) → i < 64 → getD ws i 0 ≡ weight (p .year) i
   weights-same i m = rw year-same (weights-stay ws s t whole-at i m)
@@ -129,7 +129,7 @@ module _ (rule : Year → ℕ → Step) (l : OnLists rule) (ws : List ℕ) (s : 
 
   turn-at : z .rule ≡ 0 → (w : Judge) → rule (yearIn ws z) j ≡ judgeTerm w (yearIn ws z) j → TermTurn rule ws s z j w
   turn-at going w is = record {
-    ready = (omega (arith, ap (λ (y : Year). y .terms) year-at, whole-at .terms-same), sound-at, held-at, going);
+    ready = (omega (arith, ap (λ (y : Year). y .terms) year-at, whole-at .year .terms-same), sound-at, held-at, going);
     rests = λ q.
         let still : rule (yearIn ws z) j ≡ live (yearIn ws z) = is ∙ ap (λ v. judgeTerm v (yearIn ws z) j) q ∙ rests-is (yearIn ws z) j in
         let quiet : stepIn ws z ≡ next rule (stepIn ws z) j = rw (going, still) (step-is refl (sym (or-false (z .altered))) refl) in
@@ -168,7 +168,7 @@ module _ (ws : List ℕ) (s : State) (sound : Sound (yearIn ws s)) (alive : s .r
       let v = whole-at rule3 lists-3 ws s sound alive j h z inv in
       let y = year-at rule3 lists-3 ws s sound alive j h z inv in
       let bound : (i : ℕ) → i < z .courses → openWeight (yearIn ws z) j i ≤ getD top j 0 = λ i m.
-      let n : i < s .courses = omega (arith, v .courses-same, ap (λ (x : Year). x .courses) y) in
+      let n : i < s .courses = omega (arith, v .year .courses-same, ap (λ (x : Year). x .courses) y) in
       omega (arith, ap (λ (x : Year). openWeight x j i) y, top-at, open-less (yearIn ws s) _ v i j n, top-bounds (yearIn ws s) (s .courses) j i n) in
       let read : w ≡ judge3 (termAt (yearIn ws z) j) (sumsAt (yearIn ws z) j) (getD top j 0) =
       q ∙ ap₂ (λ t u. judge3 t u (getD top j 0)) (term-at rule3 lists-3 ws s sound alive j h z inv) (sums-at rule3 lists-3 ws s sound alive j h z inv) in

@@ -42,7 +42,7 @@ step-is p q r = λ i. record { year = p i; altered = q i; rule = r i }
 
 -- a step leaves the weights that are lent
 pub weights-stay : (ws : List ℕ) (s : State) (p : Step) → Whole (yearIn ws s) p → (i : ℕ) → i < 64 → getD ws i 0 ≡ weight (p .year) i
-weights-stay ws s p v i h = sym (v .weight-same i ∙ ap (λ (c : Course). c .weight .0) (course-in ws (s .list) i h))
+weights-stay ws s p v i h = sym (v .year .weight-same i ∙ ap (λ (c : Course). c .weight .0) (course-in ws (s .list) i h))
 
 -- ---- the code of one term
 
@@ -92,11 +92,11 @@ module _ (ws : List ℕ) (s : State) (w : Judge) (j : ℕ) (h : j < s .terms) (s
     -- the year of the new lists
     year-after : yearFrom (s .terms) (s .courses) (s .term) ws (k .list) ≡ t .year
     year-after =
-        (λ i. yearFrom (sym (whole .terms-same) i) (sym (whole .courses-same) i) (sym (o .term-same) i) ws (list i))
-        ∙ year-is (t .year) ws (whole .sound) (weights-stay ws s t whole)
+        (λ i. yearFrom (sym (whole .year .terms-same) i) (sym (whole .year .courses-same) i) (sym (o .term-same) i) ws (list i))
+        ∙ year-is (t .year) ws (whole .year .sound) (weights-stay ws s t whole)
 
     sound-after : Sound (yearFrom (s .terms) (s .courses) (s .term) ws (k .list))
-    sound-after = subst Sound (sym year-after) (whole .sound)
+    sound-after = subst Sound (sym year-after) (whole .year .sound)
 
     -- what sums over them ask
     pub sums-fit : length ws ≡ 64 → ((s .courses ≤ 64) × (s .courses ≤ length ws) × (s .courses ≤ length (k .list)) × (s .terms ≤ 16))
@@ -113,7 +113,7 @@ module _ (ws : List ℕ) (s : State) (w : Judge) (j : ℕ) (h : j < s .terms) (s
     pub alters : k .altered ≡ true → (u : List Sums) → u ≡ tab 16 (λ i. sumsTo (bare ws (k .list)) i (s .courses))
         → record { terms = s .terms; courses = s .courses; term = s .term; list = k .list; sums = u; altered = true; rule = 0 } ≡ after
     alters a u f =
-        state-is (sym (whole .terms-same)) (sym (whole .courses-same)) (sym (o .term-same)) list
+        state-is (sym (whole .year .terms-same)) (sym (whole .year .courses-same)) (sym (o .term-same)) list
         (f ∙ sums-in (s .terms) (s .courses) (s .term) ws (k .list) ∙ ap (λ y. tab 16 (sumsAt y)) year-after)
         (sym (or-true (s .altered)) ∙ ap (λ b. s .altered || b) (sym a ∙ mark)) (sym (o .goes-on))
         ∙ sym after-is

@@ -66,17 +66,17 @@ module _ (y : Year) (t : Step) (w : Whole y t) (i j : ℕ) (h : i < y .courses) 
       let listed : has l j ≡ true = p .0 in
       let ne : l ≡ 2 ^ j → ⊥ = λ q. true≢false (sym (p .1) ∙ ap not (eq-eqb l (2 ^ j) q)) in
       let le : 2 ^ j ≤ l = has-le l j listed in
-      let inside : l < 2 ^ t .year .terms = w .sound .course-sound i (omega (arith, w .courses-same)) .list-within in
+      let inside : l < 2 ^ t .year .terms = w .year .sound .course-sound i (omega (arith, w .year .courses-same)) .list-within in
       let r = has-some (t .year .terms) (l - 2 ^ j) (omega (arith, ne)) (omega arith) in
       let other = and-true (has l (r .0)) (not (eqb (r .0) j)) (sym (has-struck l j (r .0) listed) ∙ r .2) in
       let not-alone : list y i ≡ 2 ^ j → ⊥ = λ q.
-      let k : eqb (r .0) j ≡ true = sym (has-power j (r .0)) ∙ ap (λ x. has x (r .0)) (sym q) ∙ w .lists-less i (r .0) (other .0) in
+      let k : eqb (r .0) j ≡ true = sym (has-power j (r .0)) ∙ ap (λ x. has x (r .0)) (sym q) ∙ w .year .lists-less i (r .0) (other .0) in
       true≢false (sym (other .1) ∙ ap not k) in
-      and-of (lists (courseAt y i) j) (not (isFixed (courseAt y i) j)) (w .lists-less i j listed) (ap not (ne-eqb (list y i) (2 ^ j) not-alone))
+      and-of (lists (courseAt y i) j) (not (isFixed (courseAt y i) j)) (w .year .lists-less i j listed) (ap not (ne-eqb (list y i) (2 ^ j) not-alone))
 
   pub open-less : openWeight (t .year) j i ≤ openWeight y j i
   open-less = go (isOpen (courseAt (t .year) i) j) refl
     where
       go : (b : Bool) → isOpen (courseAt (t .year) i) j ≡ b → pick b (weight (t .year) i) ≤ openWeight y j i
-      go true e = rw (was-open e) (omega (arith, w .weight-same i))
+      go true e = rw (was-open e) (omega (arith, w .year .weight-same i))
       go false e = omega arith

@@ -29,7 +29,7 @@ use Rattle.filter.specs.declared.Answer.the-variants.{Settled, Open, NoPlan, Un
 use Rattle.boundary.specs.Calls.{leftWhenRead, filterLeft, filterOut, narrowOf, narrowLeft, narrowOut}
 use Rattle.promises.specs.Narrowings.{Narrow, place, bar, raiseLowCredits, lowerHighCredits, raiseLowCount, lowerHighCount, narrow, narrows}
 use Rattle.promises.specs.RoundTrip.{read-done}
-use Rattle.promises.specs.Rounds.{filter-whole}
+use Rattle.promises.specs.Rounds.{filter-narrower}
 
 -- ---- what is promised of a filtering and of a narrowing
 
@@ -105,7 +105,7 @@ filter-leaves s b =
     let z = filterOf y .year in record {
       fills = λ r room e.
           let is = read-done s r in
-          let w = filter-whole y (read-sound s y is) in
+          let w = filter-narrower y (read-sound s y is) in
           left-done (readList s .answer) r _ b ∙ rw (le-ltb (length b) (length s) room) (filter-done (filterOf y .answer) e z b ∙ filled s b y z is (w .sound) (w .terms-same) (w .courses-same) room);
       unread = λ n. left-unread (readList s .answer) n _ b;
       short = λ h. left-same (readList s .answer) _ b (rw (lt-ltb (length b) (length s) h) refl);

@@ -1,9 +1,9 @@
 -- The three demands that stand over everything, each as one theorem.
-use Prim.Native.Nat.{ℕ, suc, _≤_}
+use Prim.Native.Nat.{ℕ, suc, _≤_, _<_}
 use mathlib.Core.Bool.{Bool, true, false}
 use mathlib.Core.List.{List}
 use mathlib.Core.Logic.{_↔_}
-use mathlib.Core.Path.{_≡_, refl, ap, _∙_}
+use mathlib.Core.Path.{_≡_, refl, sym, ap, subst, _∙_}
 use native.Mathlib.Omega.{arith}
 use lib.ListN.{length, take, drop}
 use Rattle.theory.specs.Choice.{choose}
@@ -18,17 +18,16 @@ use Rattle.records.specs.Bytes.{AllBytes}
 use Rattle.records.specs.Numbers.{readingNumber, writingNumber}
 use Rattle.records.specs.Reading.{readList, done}
 use Rattle.records.specs.Writing.{recordsOf, writeAnswer, written}
-use Rattle.rules.specs.Round.{round}
 use Rattle.filter.specs.Filter.{filterOf}
 use Rattle.filter.specs.Numbers.{filterNumber, filterRounds, isSettled}
 use Rattle.filter.specs.declared.Answer.the-variants.{Settled, Open}
 use Rattle.filter.specs.declared.Filtered.{Filtered}
-use Rattle.promises.specs.Rounds.{Filtering, Ends, no-plan, at-rest, filtering}
+use Rattle.promises.specs.Rounds.{Filtering, Ends, no-plan, at-rest, filtering, few-rounds, decides, Rested, filter-rested}
 use Rattle.promises.specs.RoundsKept.{filter-kept, filter-unsound}
 use Rattle.promises.specs.Narrowings.{Narrow, narrow, narrows, numberDue}
 use Rattle.promises.specs.SettledPlan.{thePlacing, settled-plan}
 use Rattle.promises.specs.RoundTrip.{read-gives-sound, read-done, read-refused, read-writes, written-reads, wrote}
-use Rattle.promises.specs.Sequence.{Call, filtering as filtered-call, given, after, MeetsAll, sequence-plans, sequence-no-plan}
+use Rattle.promises.specs.Sequence.{Call, filtering as filtered-call, given, after, MeetsAll, sequence-plans, sequence-no-plan, sequence-settled}
 
 -- ---- 1
 
@@ -51,13 +50,13 @@ at-rest-rounds false n = (refl, refl)
 
 ended : (y z : Year) (n : ℕ) (r : Filtered) → Ends y n z r → (filterRounds (r .answer) ≡ suc n) × (filterNumber (r .answer) ≡ 8 → ⊥)
 ended y z n r (no-plan e) = (refl, λ q. omega arith)
-ended y z n r (at-rest e g) = let k = at-rest-rounds (allPlaced (round z .year)) (suc n) in (k .0, λ q. omega (arith, k .1))
+ended y z n r (at-rest e g) = let k = at-rest-rounds (allPlaced z) (suc n) in (k .0, λ q. omega (arith, k .1))
 
 sound-ends : (y : Year) → isSound y ≡ true → (filterRounds (filterOf y .answer) ≤ 1025985) × (filterNumber (filterOf y .answer) ≡ 8 → ⊥)
 sound-ends y e =
     let f = filtering y (sound-of y e) in
     let k = ended y (f .last) (f .rounds) (filterOf y) (f .ends) in
-    (omega (arith, k .0, f .bounded), k .1)
+    (omega (arith, k .0, few-rounds (sound-of y e) (f .altering)), k .1)
 
 unsound-ends : (y : Year) → isSound y ≡ false → (filterRounds (filterOf y .answer) ≡ 0) × (filterNumber (filterOf y .answer) ≡ 8)
 unsound-ends y e = (ap (λ r. filterRounds (r .answer)) (filter-unsound y e), ap (λ r. filterNumber (r .answer)) (filter-unsound y e))
@@ -86,7 +85,8 @@ demand-1 = record {
 -- Filtering gives the year, the answer and the round count that the rules give when run in the paper's order until a full round
 -- alters nothing. Write then read gives the year; a list that reads is written back byte for byte.
 pub record Demand2 : Type 0 where
-  pub rounds-in-order : (y : Year) → Sound y → Filtering y (filterOf y)
+  pub rounds-in-order : (y : Year) (r : Filtered) → Sound y → Filtering y r ↔ (r ≡ filterOf y)
+  pub rests : (y : Year) → Sound y → filterNumber (filterOf y .answer) ≡ 0 → Rested (filterOf y)
   pub write-then-read : (y : Year) (b : List ℕ) → Sound y → writingNumber (writeAnswer y (length b)) ≡ 0
       → readList (take (length (recordsOf y)) (written y b)) ≡ done y
   pub nothing-behind : (y : Year) (b : List ℕ) → writingNumber (writeAnswer y (length b)) ≡ 0
@@ -96,7 +96,8 @@ pub record Demand2 : Type 0 where
 
 pub demand-2 : Demand2
 demand-2 = record {
-  rounds-in-order = filtering;
+  rounds-in-order = λ y r s. (decides s r, λ e. subst (Filtering y) (sym e) (filtering y s));
+  rests = filter-rested;
   write-then-read = λ y b s e. ap readList (wrote y b .front e) ∙ written-reads y s;
   nothing-behind = λ y b. wrote y b .behind;
   read-then-write = λ s bytes e. (read-gives-sound s (readList s .year) (read-done s e), read-writes s bytes (readList s .year) (read-done s e));
@@ -110,7 +111,10 @@ pub record Demand3 : Type 0 where
   pub plans-kept : (first : Year) (calls : List Call) → Sound first → (p : Placing) → Plan (after calls first) p ↔ (Plan first p × MeetsAll first calls first p)
   pub no-plan-only-where-none : (first : Year) (calls : List Call) → Sound first → given filtered-call (after calls first) .number ≡ 13
       → (p : Placing) → Plan first p → MeetsAll first calls first p → ⊥
+  pub settled-is-the-plan : (first : Year) (calls : List Call) → Sound first → isSettled (filterOf (after calls first) .answer) ≡ true
+      → let p = thePlacing (filterOf (after calls first) .year) in
+      (Plan first p × MeetsAll first calls first p) × ((q : Placing) → Plan first q → MeetsAll first calls first q → (i : ℕ) → i < first .courses → q i ≡ p i)
   pub settled-exactly-if-plan : (y : Year) → Sound y → allPlaced y ≡ true → (isSettled (filterOf y .answer) ≡ true) ↔ Plan y (thePlacing y)
 
 pub demand-3 : Demand3
-demand-3 = record { plans-kept = sequence-plans; no-plan-only-where-none = sequence-no-plan; settled-exactly-if-plan = settled-plan }
+demand-3 = record { plans-kept = sequence-plans; no-plan-only-where-none = sequence-no-plan; settled-is-the-plan = sequence-settled; settled-exactly-if-plan = settled-plan }

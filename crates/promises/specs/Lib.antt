@@ -3,6 +3,7 @@ pub mod Rounds
 pub mod Narrowings
 pub mod RoundsKept
 pub mod OnePlacing
+pub mod SpareRoom
 pub mod SettledPlan
 pub mod ImbalancePlan
 pub mod RoundTrip

@@ -1,6 +1,7 @@
 -- Any calls, one after another, on any sound first year: the plans of the year in hand are the plans of the first year
 -- that meet every accepted narrowing so far.
-use Prim.Native.Nat.{ℕ}
+use Prim.Native.Nat.{ℕ, _<_}
+use mathlib.Core.Bool.{true}
 use mathlib.Core.List.{List, [], _∷_}
 use mathlib.Core.Logic.{_↔_}
 use mathlib.Core.Path.{_≡_, refl, sym, ap, subst, _∙_}
@@ -17,13 +18,13 @@ use Rattle.year.specs.declared.Year.{Year}
 use Rattle.records.specs.Numbers.{writingNumber}
 use Rattle.records.specs.Reading.{readList}
 use Rattle.records.specs.Writing.{recordsOf, writeAnswer, written}
-use Rattle.rules.specs.Step.{live}
 use Rattle.filter.specs.Filter.{filterOf}
-use Rattle.filter.specs.Numbers.{filterNumber}
-use Rattle.promises.specs.Rounds.{filter-whole}
-use Rattle.rules.proofs.Alike.{Alike, alike-rest, alike-then, alike-whole, credits-alike, count-alike}
+use Rattle.filter.specs.Numbers.{filterNumber, isSettled}
+use Rattle.promises.specs.Rounds.{filter-narrower}
+use Rattle.rules.proofs.Alike.{Alike, alike-rest, alike-then, alike-narrower, credits-alike, count-alike}
 use Rattle.promises.specs.Narrowings.{Narrow, place, bar, raiseLowCredits, lowerHighCredits, raiseLowCount, lowerHighCount, narrow, Meets, narrows}
 use Rattle.promises.specs.RoundsKept.{filter-kept}
+use Rattle.promises.specs.SettledPlan.{thePlacing, settled-one}
 use Rattle.promises.specs.RoundTrip.{wrote, written-reads}
 
 -- ---- calls
@@ -101,10 +102,10 @@ called first (narrowing n) y s a =
         (λ h. (q .0 h .0, λ z. m .0 (q .0 h .1)), λ h. q .1 (h .0, m .1 (h .1 e)))
     go p (no d) = let e = narrows n y .refused d in (λ h. (subst (λ z. Plan z p) e h, λ z. absurd (d z)), λ h. subst (λ z. Plan z p) (sym e) (h .0))
 called first filtering y s a =
-    let w = filter-whole y s in
+    let w = filter-narrower y s in
     record {
       sound = w .sound;
-      alike = alike-whole y (live (filterOf y .year)) w;
+      alike = alike-narrower y (filterOf y .year) w;
       plans = λ p. (λ h. (filter-kept y .plans p .0 h, tt), λ h. filter-kept y .plans p .1 (h .0));
     }
 called first (writing b) y s a =
@@ -132,6 +133,12 @@ from first (c ∷ cs) y s a p =
       λ h. rest .1 (one .plans p .1 (h .0, h .1 .0), h .1 .1),
     )
 
+courses-from : (first : Year) (cs : List Call) (y : Year) → Sound y → Alike first y → after cs y .courses ≡ first .courses
+courses-from first [] y s a = a .courses-same
+courses-from first (c ∷ cs) y s a =
+    let one = called first c y s a in
+    courses-from first cs (given c y .year) (one .sound) (alike-then first y (given c y .year) a (one .alike))
+
 pub sequence-sound : (first : Year) (calls : List Call) → Sound first → Sound (after calls first)
 sequence-sound first calls s = sound-from first calls first s (alike-rest first)
 
@@ -143,3 +150,14 @@ sequence-plans first calls s = from first calls first s (alike-rest first)
 pub sequence-no-plan : (first : Year) (calls : List Call) → Sound first → given filtering (after calls first) .number ≡ 13
     → (p : Placing) → Plan first p → MeetsAll first calls first p → ⊥
 sequence-no-plan first calls s e p h m = filter-kept (after calls first) .no-plan e p (sequence-plans first calls s p .1 (h, m))
+
+-- a filtering after the calls that says settled: its year's placing is the one plan of the first year that meets them
+pub sequence-settled : (first : Year) (calls : List Call) → Sound first → isSettled (filterOf (after calls first) .answer) ≡ true
+    → let p = thePlacing (filterOf (after calls first) .year) in
+    (Plan first p × MeetsAll first calls first p) × ((q : Placing) → Plan first q → MeetsAll first calls first q → (i : ℕ) → i < first .courses → q i ≡ p i)
+sequence-settled first calls s e =
+    let y = after calls first in
+    let one = settled-one y (sequence-sound first calls s) e in (
+      sequence-plans first calls s (thePlacing (filterOf y .year)) .0 (one .plan),
+      λ q h m i l. one .only q (sequence-plans first calls s q .1 (h, m)) i (omega (arith, courses-from first calls first s (alike-rest first))),
+    )

@@ -1,10 +1,13 @@
--- Where every course has a single term, filtering says settled exactly if that placing is a plan.
-use Prim.Native.Nat.{ℕ, _^_}
+-- Settled means one plan: the placing that the filtered year leaves. Where every course had a single term before, filtering says
+-- settled exactly if that placing is a plan.
+use Prim.Native.Nat.{ℕ, suc, _<_, _^_}
 use mathlib.Core.Bool.{Bool, true, false, true≢false}
 use mathlib.Core.Logic.{_↔_}
 use mathlib.Core.Path.{_≡_, refl, sym, ap, _∙_}
 use native.Mathlib.Omega.{arith}
 use borrow.Author.Tests.{eqb-true, eq-eqb}
+use Rattle.theory.specs.Choice.{choose-case}
+use Rattle.theory.specs.Bits.{has, has-power}
 use Rattle.theory.specs.Sum.{pick, sum, sum-single}
 use Rattle.theory.specs.Tests.{any-true, any-of, all-at, all-of}
 use Rattle.year.specs.Year.{courseAt, list, isFixed}
@@ -13,17 +16,15 @@ use Rattle.year.specs.Plans.{Placing, Plan}
 use Rattle.year.specs.Sound.{Sound}
 use Rattle.year.specs.declared.Course.{Course}
 use Rattle.year.specs.declared.Year.{Year}
-use Rattle.rules.specs.Step.{live}
-use Rattle.rules.specs.Round.{round}
-use Rattle.rules.proofs.Steps.{whole-round}
-use Rattle.filter.specs.Filter.{filterOf}
-use Rattle.filter.specs.Numbers.{filterNumber, isSettled}
-use Rattle.filter.specs.declared.Filtered.{Filtered}
-use Rattle.promises.specs.Rounds.{Altering, altering-whole, Ends, no-plan, at-rest, filtering}
 use Rattle.rules.proofs.Reading.{fixed-lists}
 use Rattle.rules.proofs.PlanSums.{fixed-listed}
+use Rattle.filter.specs.Filter.{atRest, filterOf}
+use Rattle.filter.specs.Numbers.{filterNumber, isSettled}
+use Rattle.filter.specs.declared.Answer.the-variants.{Settled, Open}
+use Rattle.filter.specs.declared.Filtered.{Filtered}
+use Rattle.promises.specs.Rounds.{Altering, altering-narrower, Ends, no-plan, at-rest, filtering, filter-narrower}
 use Rattle.promises.specs.RoundsKept.{filter-kept}
-use Rattle.promises.specs.OnePlacing.{PlacedBy, placed-within, placed-stays, round-plan}
+use Rattle.promises.specs.OnePlacing.{PlacedBy, placed-within, placed-stays, rest-plan}
 
 -- ---- that placing
 
@@ -61,26 +62,54 @@ all-placed y p s h =
 
 -- ---- filtering
 
-module _ {y z : Year} {n : ℕ} (p : Placing) (s : Sound y) (h : PlacedBy y p) (a : Altering y n z) where
-  placed-last : PlacedBy z p
-  placed-last = placed-stays y p (live z) (altering-whole s a) h
+module _ {y z : Year} {n : ℕ} (s : Sound y) (a : Altering y n z) where
+  sound-last : Sound z
+  sound-last = altering-narrower s a .sound
 
-  ends-settled : {r : Filtered} → Ends y n z r → (filterNumber (r .answer) ≡ 13 → ⊥) → isSettled (r .answer) ≡ true
-  ends-settled (no-plan e) d = absurd (d refl)
-  ends-settled (at-rest e g) d =
-      let w = whole-round z (altering-whole s a .sound) in
-      rw (all-placed (round z .year) p (w .sound) (placed-stays z p (round z) w placed-last))
+  ends-settled : (p : Placing) → PlacedBy y p → {r : Filtered} → Ends y n z r → (filterNumber (r .answer) ≡ 13 → ⊥) → isSettled (r .answer) ≡ true
+  ends-settled p h (no-plan e) d = absurd (d refl)
+  ends-settled p h (at-rest e g) d = rw (all-placed z p sound-last (placed-stays y p z (altering-narrower s a) h))
 
-  ends-plan : {r : Filtered} → Ends y n z r → isSettled (r .answer) ≡ true → Plan (r .year) p
-  ends-plan (no-plan e) q = absurd (true≢false (sym q))
-  ends-plan (at-rest e g) q = round-plan z p (altering-whole s a .sound) placed-last e
+  settled-placed : (k : ℕ) → isSettled (atRest z k) ≡ true → allPlaced z ≡ true
+  settled-placed k = choose-case (λ b. isSettled b ≡ true → allPlaced z ≡ true) (allPlaced z) (Settled k) (Open k) (λ e q. e) (λ e q. absurd (true≢false (sym q)))
 
+  ends-placed : {r : Filtered} → Ends y n z r → isSettled (r .answer) ≡ true → allPlaced (r .year) ≡ true
+  ends-placed (no-plan e) q = absurd (true≢false (sym q))
+  ends-placed (at-rest e g) q = settled-placed (suc n) q
+
+  -- a year at rest in which every course has one term: that placing is a plan
+  ends-plan : (p : Placing) {r : Filtered} → Ends y n z r → isSettled (r .answer) ≡ true → PlacedBy (r .year) p → Plan (r .year) p
+  ends-plan p (no-plan e) q h = absurd (true≢false (sym q))
+  ends-plan p (at-rest e g) q h = rest-plan z p sound-last h e g
+
+-- settled: the placing that the filtered year leaves is a plan, and every plan is that placing
+pub record OnePlan (y : Year) (p : Placing) : Type 0 where
+  pub plan : Plan y p
+  pub only : (q : Placing) → Plan y q → (i : ℕ) → i < y .courses → q i ≡ p i
+
+-- a plan of a year in which every course has one term is that placing
+placed-only : (z : Year) (p q : Placing) → PlacedBy z p → Plan z q → (i : ℕ) → i < z .courses → q i ≡ p i
+placed-only z p q h l i m = eqb-true (q i) (p i) (sym (has-power (p i) (q i)) ∙ ap (λ x. has x (q i)) (sym (h i m)) ∙ l .listed i m)
+
+pub settled-one : (y : Year) → Sound y → isSettled (filterOf y .answer) ≡ true → OnePlan y (thePlacing (filterOf y .year))
+settled-one y s e =
+    let f = filtering y s in
+    let k = filter-kept y in
+    let z = filterOf y .year in
+    let h = placed-by z (ends-placed s (f .altering) (f .ends) e) in
+    record {
+      plan = k .plans (thePlacing z) .0 (ends-plan s (f .altering) (thePlacing z) (f .ends) e h);
+      only = λ q l i m. placed-only z (thePlacing z) q h (k .plans q .1 l) i (omega (arith, filter-narrower y s .courses-same));
+    }
+
+-- where every course had one term before
 pub settled-exactly : (y : Year) (p : Placing) → Sound y → PlacedBy y p → (isSettled (filterOf y .answer) ≡ true) ↔ Plan y p
 settled-exactly y p s h =
     let f = filtering y s in
-    let k = filter-kept y in (
-      λ q. k .plans p .0 (ends-plan p s h (f .altering) (f .ends) q),
-      λ q. ends-settled p s h (f .altering) (f .ends) (λ e. k .no-plan e p q),
+    let k = filter-kept y in
+    let there = placed-stays y p (filterOf y .year) (filter-narrower y s) h in (
+      λ e. k .plans p .0 (ends-plan s (f .altering) p (f .ends) e there),
+      λ q. ends-settled s (f .altering) p h (f .ends) (λ e. k .no-plan e p q),
     )
 
 pub settled-plan : (y : Year) → Sound y → allPlaced y ≡ true → (isSettled (filterOf y .answer) ≡ true) ↔ Plan y (thePlacing y)

@@ -4,33 +4,18 @@ use mathlib.Core.List.{List, [], _∷_, _++_}
 use mathlib.Core.Path.{_≡_, refl}
 use lib.ListN.{replicate}
 use Rattle.theory.specs.Choice.{choose}
-use Rattle.theory.specs.Sum.{sum}
-use Rattle.theory.specs.Tests.{any, all}
-use Rattle.theory.specs.Tab.{tab}
-use Rattle.theory.specs.Load.{others}
-use Rattle.theory.specs.Order.{rank, orderTo, keep}
-use Rattle.theory.specs.Walk.{walk}
-use Rattle.theory.specs.Packing.{share}
 use Rattle.year.specs.Year.{termOf, courseOf, lowCredits, highCredits, lowCount, highCount, weight, list}
-use Rattle.year.specs.Sound.{isSound}
-use Rattle.year.specs.Sums.{fixedCredits, openCredits, fixedCount, openCount, allCredits, isPlaced, allPlaced}
-use Rattle.year.specs.Tight.{creditsWithin, countsWithin}
 use Rattle.year.specs.Narrow.{barOf}
-use Rattle.year.specs.Imbalance.{largest, smallest, onePlan, spreadOf, imbalanceOf}
+use Rattle.year.specs.Imbalance.{smallest, onePlan, spreadOf, imbalanceOf}
 use Rattle.year.specs.Numbers.{narrowingNumber, imbalanceNumber, imbalanceValue}
 use Rattle.year.specs.declared.Year.{Year}
 use Rattle.records.specs.Numbers.{readingNumber}
 use Rattle.records.specs.Reading.{termRecord, courseRecord, recordAt, readTo, readList}
-use Rattle.rules.specs.Step.{outcome, overTo}
-use Rattle.rules.specs.Bounds.{rule1, rule2, rule4, rule5}
-use Rattle.rules.specs.Lists.{verdict3, rule3Course, rule3, verdict10, rule10Course, rule10}
-use Rattle.rules.specs.Spares.{spares, blocked, charged, walkOf, down, up, rule6, rule7, rule8, rule9}
-use Rattle.rules.specs.Packing.{shares, rule11}
-use Rattle.rules.specs.Round.{round}
 use Rattle.rules.specs.Examples.{yearOf, six, seven, three, leastCount, largestQuotient}
-use Rattle.filter.specs.Filter.{roundsFrom, filterOf}
+use Rattle.filter.specs.Filter.{filterOf}
 use Rattle.filter.specs.Numbers.{filterNumber, filterRule, filterRounds, isSettled}
 use Rattle.filter.specs.declared.Filtered.{Filtered}
+use Rattle.filter.specs.Computing.{computing}
 
 -- ---- answers as rows of numbers
 
@@ -99,5 +84,5 @@ table =
     ∷ []
 
 pub table-holds : Holds table
-unfolding sum any all tab others rank orderTo keep walk share isSound fixedCredits openCredits fixedCount openCount allCredits isPlaced allPlaced creditsWithin countsWithin barOf largest smallest onePlan spreadOf imbalanceOf termRecord courseRecord recordAt readTo readList outcome overTo rule1 rule2 rule4 rule5 verdict3 rule3Course rule3 verdict10 rule10Course rule10 spares blocked charged walkOf down up rule6 rule7 rule8 rule9 shares rule11 round roundsFrom filterOf
+unfolding computing barOf smallest onePlan spreadOf imbalanceOf termRecord courseRecord recordAt readTo readList
 table-holds = (refl, (refl, (refl, (refl, (refl, (refl, (refl, (refl, (refl, (refl, (refl, (refl, tt))))))))))))

@@ -9,8 +9,7 @@ use Rattle.year.specs.Plans.{Placing, creditsIn, countIn}
 use Rattle.year.specs.Sound.{Sound}
 use Rattle.year.specs.declared.Year.{Year}
 use Rattle.year.proofs.DoorLaws.{weight-same}
-use Rattle.rules.specs.declared.Step.{Step}
-use Rattle.rules.proofs.Whole.{Whole}
+use Rattle.rules.proofs.Whole.{Narrower}
 
 pub record Alike (y z : Year) : Type 0 where
   pub terms-same : z .terms ≡ y .terms
@@ -30,8 +29,8 @@ alike-then x y z a b = record {
 pub alike-list : (y : Year) (i l : ℕ) → Sound y → i < y .courses → Alike y (withList y i l)
 alike-list y i l s h = record { terms-same = refl; courses-same = refl; weight-same = λ k. weight-same y i l k (omega (arith, s)) }
 
-pub alike-whole : (y : Year) (s : Step) → Whole y s → Alike y (s .year)
-alike-whole y s w = record { terms-same = w .terms-same; courses-same = w .courses-same; weight-same = w .weight-same }
+pub alike-narrower : (y z : Year) → Narrower y z → Alike y z
+alike-narrower y z w = record { terms-same = w .terms-same; courses-same = w .courses-same; weight-same = w .weight-same }
 
 module _ (y z : Year) (p : Placing) (a : Alike y z) (k : ℕ) where
   pub credits-alike : creditsIn z p k ≡ creditsIn y p k

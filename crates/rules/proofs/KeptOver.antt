@@ -12,7 +12,7 @@ use Rattle.year.specs.Sound.{Sound}
 use Rattle.year.specs.declared.Year.{Year}
 use Rattle.rules.specs.Step.{step, live, dead, next, overTo, overTerms}
 use Rattle.rules.specs.declared.Step.{Step}
-use Rattle.rules.proofs.Whole.{Whole}
+use Rattle.rules.proofs.Whole.{Narrower, narrower-self, narrower-then, Whole}
 use Rattle.rules.proofs.Kept.{Kept}
 
 -- nothing is done
@@ -49,16 +49,7 @@ module _ (f : Year → ℕ → Step) (If : Year → Type 0) (n : ℕ) (kept : (z
         choose-case (λ (t : Step). If (t .year)) (eqb (overTo f s m .rule) 0) _ (overTo f s m) (λ e. stays (overTo f s m .year) m (b .1) (omega arith)) (λ e. b .1),
       )
 
--- ---- the years that a rule meets
-
--- sound, with so many terms and courses
-pub record Sized (terms courses : ℕ) (z : Year) : Type 0 where
-  pub sound : Sound z
-  pub terms-are : z .terms ≡ terms
-  pub courses-are : z .courses ≡ courses
-
-pub sized-stays : (terms courses : ℕ) (z : Year) (s : Step) → Sized terms courses z → Whole z s → Sized terms courses (s .year)
-sized-stays terms courses z s a w = record { sound = w .sound; terms-are = w .terms-same ∙ a .terms-are; courses-are = w .courses-same ∙ a .courses-are }
+-- ---- over the terms
 
 -- what holds of a rule at each term of a sound year
 abbrev pub AtTerms : (Year → Step → Type 0) → (Year → ℕ → Step) → Type 0
@@ -67,6 +58,6 @@ AtTerms P f = (z : Year) (j : ℕ) → Sound z → j < z .terms → P z (f z j)
 -- a rule that keeps the plans at each term, and leaves a whole year, keeps them over all terms
 pub kept-terms : (f : Year → ℕ → Step) → AtTerms Kept f → AtTerms Whole f → (y : Year) (s : Step) → Sound (s .year) → Kept y s → Kept y (overTerms f s)
 kept-terms f kept whole y s sound a =
-    kept-over f (Sized (s .year .terms) (s .year .courses)) (s .year .terms) (λ z k i l. kept z k (i .sound) (omega arith))
-    (λ z k i l. sized-stays (s .year .terms) (s .year .courses) z (f z k) i (whole z k (i .sound) (omega arith)))
-    y s a (record { sound = sound; terms-are = refl; courses-are = refl }) (s .year .terms) (le-refl (s .year .terms)) .0
+    kept-over f (Narrower (s .year)) (s .year .terms) (λ z k i l. kept z k (i .sound) (omega (arith, i .terms-same)))
+    (λ z k i l. narrower-then (s .year) z (f z k .year) i (whole z k (i .sound) (omega (arith, i .terms-same)) .year))
+    y s a (narrower-self (s .year) sound) (s .year .terms) (le-refl (s .year .terms)) .0

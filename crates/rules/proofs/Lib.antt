@@ -14,3 +14,5 @@ pub mod BoundsKept
 pub mod ListsKept
 pub mod SparesKept
 pub mod PackingKept
+pub mod Passes
+pub mod Rest

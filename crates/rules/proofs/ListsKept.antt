@@ -23,7 +23,8 @@ use Rattle.rules.specs.declared.Verdict.{Verdict}
 use Rattle.rules.specs.declared.Verdict.the-variants.{Stays, Struck, Fixed}
 use Rattle.rules.proofs.Steps.{lawful-3, lawful-10}
 use Rattle.rules.proofs.Kept.{Kept}
-use Rattle.rules.proofs.KeptOver.{kept-rest, kept-dead, kept-over, Sized, sized-stays}
+use Rattle.rules.proofs.KeptOver.{kept-rest, kept-dead, kept-over}
+use Rattle.rules.proofs.Whole.{Narrower, narrower-self, narrower-then}
 use Rattle.rules.proofs.DoorPlans.{placed-plans, struck-plans}
 use Rattle.rules.proofs.PlanSums.{open-facts, credits-with, credits-without, count-floor, count-roof, count-with, count-without, count-halves}
 
@@ -81,10 +82,10 @@ module _ (z : Year) (i j : ℕ) (s : Sound z) (l : i < z .courses) (m : j < z .t
 pub rule3-kept : (y : Year) (j : ℕ) → Sound y → j < y .terms → Kept y (rule3 y j)
 unfolding rule3
 rule3-kept y j s l =
-    kept-over (rule3Course j) (Sized (y .terms) (y .courses)) (y .courses)
+    kept-over (rule3Course j) (Narrower y) (y .courses)
     (λ z i a h. course3-kept z i j (a .sound) (omega arith) (omega arith))
-    (λ z i a h. sized-stays (y .terms) (y .courses) z (rule3Course j z i) a (lawful-3 (y .terms) (y .courses) j l z i (a .sound) (a .terms-are) (a .courses-are) h))
-    y (live y) (kept-rest y) (record { sound = s; terms-are = refl; courses-are = refl }) (y .courses) (le-refl (y .courses)) .0
+    (λ z i a h. narrower-then y z (rule3Course j z i .year) a (lawful-3 (y .terms) (y .courses) j l z i (a .sound) (a .terms-same) (a .courses-same) h .year))
+    y (live y) (kept-rest y) (narrower-self y s) (y .courses) (le-refl (y .courses)) .0
 
 -- ---- rule 10
 
@@ -160,11 +161,11 @@ rule10-kept y j s l =
     (le-ltb (highCount y j) (fixedCount y j) (omega (arith, count-floor y p q j, q .count-high j l)))
     (le-ltb (fixedCount y j + openCount y j) (lowCount y j) (omega (arith, count-roof y p q j, q .count-low j l))))))
     (λ e.
-    kept-over (rule10Course (full y j) (needed y j) j) (λ z. Sized (y .terms) (y .courses) z × Asked (full y j) (needed y j) j z) (y .courses)
+    kept-over (rule10Course (full y j) (needed y j) j) (λ z. Narrower y z × Asked (full y j) (needed y j) j z) (y .courses)
     (λ z i a h. course10 z i j (a .0 .sound) (omega (arith, a .0)) (omega (arith, a .0)) (full y j) (needed y j) (a .1) .0)
     (λ z i a h. (
-      sized-stays (y .terms) (y .courses) z (rule10Course (full y j) (needed y j) j z i) (a .0)
-          (lawful-10 (y .terms) (y .courses) j (full y j) (needed y j) l z i (a .0 .sound) (a .0 .terms-are) (a .0 .courses-are) h),
+      narrower-then y z (rule10Course (full y j) (needed y j) j z i .year) (a .0)
+          (lawful-10 (y .terms) (y .courses) j (full y j) (needed y j) l z i (a .0 .sound) (a .0 .terms-same) (a .0 .courses-same) h .year),
       course10 z i j (a .0 .sound) (omega (arith, a .0)) (omega (arith, a .0)) (full y j) (needed y j) (a .1) .1,
     ))
-    y (live y) (kept-rest y) (record { sound = s; terms-are = refl; courses-are = refl }, asked-first y j (full y j) (needed y j) refl refl) (y .courses) (le-refl (y .courses)) .0)
+    y (live y) (kept-rest y) (narrower-self y s, asked-first y j (full y j) (needed y j) refl refl) (y .courses) (le-refl (y .courses)) .0)

@@ -6,12 +6,13 @@ use native.Mathlib.Omega.{arith}
 use native.Mathlib.Nat.{le-refl, le-of-eq}
 use native.Mathlib.Decide.{ℕ-discrete}
 use lib.Dec.{eqb, ltb}
+use lib.Seq.{set-getD}
 use borrow.Author.Tests.{eqb-true, eq-eqb, ltb-true, ltb-false}
 use Rattle.theory.specs.Choice.{choose-case, choose-any}
 use Rattle.theory.specs.Sum.{pick, sum-change}
 use Rattle.theory.specs.Tests.{any, and-true, or-false}
 use Rattle.theory.specs.Bits.{has, has-struck, has-power, power-below}
-use Rattle.year.specs.Year.{termAt, courseAt, list, lists, isFixed, isOpen, lowCredits, highCredits, lowCount, highCount, withTerm, withList, placed, struck}
+use Rattle.year.specs.Year.{termOf, zeroTerm, termAt, courseAt, list, lists, isFixed, isOpen, lowCredits, highCredits, lowCount, highCount, withTerm, withList, placed, struck}
 use Rattle.year.specs.Sums.{fixedCount, openCount}
 use Rattle.year.specs.Sound.{Sound, TermSound}
 use Rattle.year.specs.Tight.{creditsWithin, countsWithin}
@@ -24,13 +25,12 @@ use Rattle.rules.specs.Bounds.{rule1, rule2, rule4, rule5}
 use Rattle.rules.specs.Lists.{verdict3, rule3Course, rule3, full, needed, verdict10, rule10Course, rule10}
 use Rattle.rules.specs.Spares.{rule6, rule7, rule8, rule9}
 use Rattle.rules.specs.Packing.{burst, room, bursts, rule11}
-use Rattle.rules.specs.Round.{bounded, round}
 use Rattle.rules.specs.declared.Step.{Step}
 use Rattle.rules.specs.declared.Outcome.{Outcome}
 use Rattle.rules.specs.declared.Verdict.{Verdict}
 use Rattle.rules.specs.declared.Verdict.the-variants.{Stays, Struck, Fixed}
 use Rattle.rules.proofs.Measure.{slack, slackAt, choices, choicesAt, measure, choices-struck, choices-placed}
-use Rattle.rules.proofs.Whole.{Whole, whole-rest, whole-next, whole-over, Lawful}
+use Rattle.rules.proofs.Whole.{Whole, whole-rest, whole-over, Lawful}
 
 -- ---- bounds
 
@@ -42,9 +42,16 @@ pub record Tighter (t u : Term) (altered : Bool) : Type 0 where
   pub least : t .least .0 ≤ u .least .0
   pub most : u .most .0 ≤ t .most .0
   pub falls : slack u + pick altered 1 ≤ slack t
+  pub still : altered ≡ false → u ≡ t
 
 tighter-same : (t : Term) → TermSound t → Tighter t t false
-tighter-same t s = record { sound = s; low = omega arith; high = omega arith; least = omega arith; most = omega arith; falls = omega arith }
+tighter-same t s = record { sound = s; low = omega arith; high = omega arith; least = omega arith; most = omega arith; falls = omega arith; still = λ e. refl }
+
+-- one pair of bounds of which neither is tighter
+pair-still : (low high a b : ℕ) → ltb low a || ltb b high ≡ false → (max low a ≡ low) × (min high b ≡ high)
+pair-still low high a b e =
+    let q = or-false (ltb low a) (ltb b high) e in
+    (omega (arith, ltb-false low a (q .0)), omega (arith, ltb-false b high (q .1)))
 
 -- one pair of bounds: low raised to a, high lowered to b, and not crossed
 pair-falls : (low high a b : ℕ) → max low a ≤ min high b → (min high b - max low a) + pick (ltb low a || ltb b high) 1 ≤ high - low
@@ -71,6 +78,7 @@ credits-tighter r fails t a b s =
       least = omega arith;
       most = omega arith;
       falls = omega (arith, pair-falls (t .low .0) (t .high .0) a b h);
+      still = λ z. let p = pair-still (t .low .0) (t .high .0) a b z in λ i. termOf (p .0 i) (p .1 i) (t .least .0) (t .most .0);
     })
 
 pub counts-tighter : (r : ℕ) (fails : Bool) (t : Term) (a b : ℕ) → TermSound t → OutcomeTighter t (outcome r fails t (countsWithin t a b))
@@ -86,7 +94,12 @@ counts-tighter r fails t a b s =
       least = omega arith;
       most = omega arith;
       falls = omega (arith, pair-falls (t .least .0) (t .most .0) a b h);
+      still = λ z. let p = pair-still (t .least .0) (t .most .0) a b z in λ i. termOf (t .low .0) (t .high .0) (p .0 i) (p .1 i);
     })
+
+-- a term's own bounds put there again
+with-own : (y : Year) (j : ℕ) → withTerm y j (termAt y j) ≡ y
+with-own y j = λ i. record { terms = y .terms; courses = y .courses; term = set-getD (y .term) j zeroTerm i; course = y .course }
 
 module _ (y : Year) (j : ℕ) (o : Outcome) (s : Sound y) (h : j < y .terms) (w : OutcomeTighter (termAt y j) o) where
   at : (k : ℕ) (P : Term → Term → Type 0) → P (termAt y j) (o .term) → (P (termAt y k) (termAt y k)) → P (termAt y k) (termAt (withTerm y j (o .term)) k)
@@ -108,16 +121,19 @@ module _ (y : Year) (j : ℕ) (o : Outcome) (s : Sound y) (h : j < y .terms) (w 
 
   pub whole-put : Whole y (put y j o)
   whole-put = record {
-    sound = with-term-sound y j (o .term) s h (w .sound);
-    terms-same = refl;
-    courses-same = refl;
-    weight-same = λ i. refl;
-    low-credits = λ k. at k (λ t u. t .low .0 ≤ u .low .0) (w .low) (le-refl (lowCredits y k));
-    high-credits = λ k. at k (λ t u. u .high .0 ≤ t .high .0) (w .high) (le-refl (highCredits y k));
-    low-count = λ k. at k (λ t u. t .least .0 ≤ u .least .0) (w .least) (le-refl (lowCount y k));
-    high-count = λ k. at k (λ t u. u .most .0 ≤ t .most .0) (w .most) (le-refl (highCount y k));
-    lists-less = λ i k e. e;
+    year = record {
+      sound = with-term-sound y j (o .term) s h (w .sound);
+      terms-same = refl;
+      courses-same = refl;
+      weight-same = λ i. refl;
+      low-credits = λ k. at k (λ t u. t .low .0 ≤ u .low .0) (w .low) (le-refl (lowCredits y k));
+      high-credits = λ k. at k (λ t u. u .high .0 ≤ t .high .0) (w .high) (le-refl (highCredits y k));
+      low-count = λ k. at k (λ t u. t .least .0 ≤ u .least .0) (w .least) (le-refl (lowCount y k));
+      high-count = λ k. at k (λ t u. u .most .0 ≤ t .most .0) (w .most) (le-refl (highCount y k));
+      lists-less = λ i k e. e;
+    };
     falls = measure-falls;
+    still = λ e. ap (withTerm y j) (w .still e) ∙ with-own y j;
   }
 
 -- ---- lists
@@ -137,16 +153,19 @@ module _ (y : Year) (i l : ℕ) (s : Sound y) (h : i < y .courses) (sound : Soun
 
   pub whole-list : Whole y (step (withList y i l) true 0)
   whole-list = record {
-    sound = sound;
-    terms-same = refl;
-    courses-same = refl;
-    weight-same = λ k. weight-same y i l k (omega (arith, s));
-    low-credits = λ k. le-refl (lowCredits y k);
-    high-credits = λ k. le-refl (highCredits y k);
-    low-count = λ k. le-refl (lowCount y k);
-    high-count = λ k. le-refl (highCount y k);
-    lists-less = λ a k e. named a k (ℕ-discrete a i) e;
+    year = record {
+      sound = sound;
+      terms-same = refl;
+      courses-same = refl;
+      weight-same = λ k. weight-same y i l k (omega (arith, s));
+      low-credits = λ k. le-refl (lowCredits y k);
+      high-credits = λ k. le-refl (highCredits y k);
+      low-count = λ k. le-refl (lowCount y k);
+      high-count = λ k. le-refl (highCount y k);
+      lists-less = λ a k e. named a k (ℕ-discrete a i) e;
+    };
     falls = list-falls;
+    still = λ e. absurd (true≢false e);
   }
     where
       named : (a k : ℕ) → Dec (a ≡ i) → lists (courseAt (withList y i l) a) k ≡ true → lists (courseAt y a) k ≡ true
@@ -268,24 +287,9 @@ whole-11 y s =
     (choose-any (Whole y) (eqb (room y) 0) (live y) _ (whole-rest y 0 s)
     (choose-any (Whole y) (any (room y / 2 + 1) (bursts y (room y))) (dead 11 y) (live y) (whole-rest y 11 s) (whole-rest y 0 s)))
 
--- ---- a round
+-- ---- over the terms
 
 -- a rule over the terms of the year that the rules before it left
 pub whole-terms : (f : Year → ℕ → Step) (y : Year) (s : Step) → ((z : Year) (j : ℕ) → Sound z → j < z .terms → Whole z (f z j)) → Whole y s → Whole y (overTerms f s)
 whole-terms f y s law a =
-    whole-over f (y .terms) y s (λ z k b t c l. law z k b (omega arith)) a (s .year .terms) (le-of-eq (a .terms-same))
-
-pub whole-round : (y : Year) → Sound y → Whole y (round y)
-unfolding round
-whole-round y s =
-    let r1 = whole-terms (bounded rule1) y (live y) (λ z j a l. whole-1 z j a l) (whole-rest y 0 s) in
-    let r2 = whole-terms (bounded rule2) y _ (λ z j a l. whole-2 z j a l) r1 in
-    let r3 = whole-terms rule3 y _ (λ z j a l. whole-3 z j a l) r2 in
-    let r4 = whole-terms (bounded rule4) y _ (λ z j a l. whole-4 z j a l) r3 in
-    let r5 = whole-terms (bounded rule5) y _ (λ z j a l. whole-5 z j a l) r4 in
-    let r6 = whole-terms (bounded rule6) y _ (λ z j a l. whole-6 z j a l) r5 in
-    let r7 = whole-terms (bounded rule7) y _ (λ z j a l. whole-7 z j a l) r6 in
-    let r8 = whole-terms (bounded rule8) y _ (λ z j a l. whole-8 z j a l) r7 in
-    let r9 = whole-terms (bounded rule9) y _ (λ z j a l. whole-9 z j a l) r8 in
-    let r10 = whole-terms rule10 y _ (λ z j a l. whole-10 z j a l) r9 in
-    whole-next (λ z k. rule11 z) y _ 0 r10 (whole-11 _ (r10 .sound))
+    whole-over f (y .terms) y s (λ z k b t c l. law z k b (omega arith)) a (s .year .terms) (le-of-eq (a .year .terms-same))

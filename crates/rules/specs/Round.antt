@@ -1,5 +1,7 @@
 -- One round: rules 1 to 11 in order, rules 1 to 10 each over terms 0, 1, 2 and so on, rule 11 once for the year.
-use Prim.Native.Nat.{ℕ}
+use Prim.Native.Nat.{ℕ, _+_, _-_}
+use mathlib.Core.List.{List, [], _∷_}
+use lib.ListN.{take, drop}
 use Rattle.year.specs.declared.Year.{Year}
 use Rattle.rules.specs.Step.{live, put, next, overTerms}
 use Rattle.rules.specs.Bounds.{rule1, rule2, rule4, rule5}
@@ -17,16 +19,33 @@ bounded rule y j = put y j (rule y j)
 abbrev pub once : (Year → Step) → Step → Step
 once rule s = next (λ y k. rule y) s 0
 
+-- the passes of a round, in the paper's order
+abbrev pub passes : List (Step → Step)
+passes =
+    overTerms (bounded rule1)
+    ∷ overTerms (bounded rule2)
+    ∷ overTerms rule3
+    ∷ overTerms (bounded rule4)
+    ∷ overTerms (bounded rule5)
+    ∷ overTerms (bounded rule6)
+    ∷ overTerms (bounded rule7)
+    ∷ overTerms (bounded rule8)
+    ∷ overTerms (bounded rule9)
+    ∷ overTerms rule10
+    ∷ once rule11
+    ∷ []
+
+-- passes one after another
+abbrev pub inRow : List (Step → Step) → Step → Step
+inRow [] s = s
+inRow (p ∷ ps) s = inRow ps (p s)
+
+-- rules a to b alone, and rule a and all behind it
+abbrev pub rulesOf : ℕ → ℕ → List (Step → Step)
+rulesOf a b = take (b + 1 - a) (drop (a - 1) passes)
+
+abbrev pub rulesFrom : ℕ → List (Step → Step)
+rulesFrom a = drop (a - 1) passes
+
 unfoldable pub round : Year → Step
-round y =
-    let r1 = overTerms (bounded rule1) (live y) in
-    let r2 = overTerms (bounded rule2) r1 in
-    let r3 = overTerms rule3 r2 in
-    let r4 = overTerms (bounded rule4) r3 in
-    let r5 = overTerms (bounded rule5) r4 in
-    let r6 = overTerms (bounded rule6) r5 in
-    let r7 = overTerms (bounded rule7) r6 in
-    let r8 = overTerms (bounded rule8) r7 in
-    let r9 = overTerms (bounded rule9) r8 in
-    let r10 = overTerms rule10 r9 in
-    once rule11 r10
+round y = inRow passes (live y)

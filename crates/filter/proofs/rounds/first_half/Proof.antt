@@ -5,10 +5,13 @@ use Prim.Native.Nat.{ℕ}
 use borrow.Author.Needs.{needs}
 use borrow.Author.Tests.{ne-eqb}
 use Rattle.year.specs.declared.Year.{Year}
-use Rattle.rules.specs.Step.{live, overTerms, held, yearIn}
-use Rattle.rules.specs.Lists.{rule3}
-use Rattle.filter.specs.Halves.{rules1to2, rules4to5, firstHalf}
-use Rattle.filter.proofs.Stages.{same-self, same-1-2, same-3, same-4-5, dead-1-2, Own, own-in, Stage, stage-sound, stage-self, stage-rule, stage-next}
+use Rattle.rules.specs.Step.{live, held, yearIn}
+use Rattle.rules.specs.Round.{inRow, rulesOf}
+use Rattle.rules.specs.declared.Step.{Step}
+use Rattle.rules.proofs.Whole.{narrower-self}
+use Rattle.rules.proofs.Passes.{lawful-part, row-last}
+use Rattle.filter.specs.Halves.{firstHalf}
+use Rattle.filter.proofs.Stages.{Own, own-in, Stage, stage-sound, stage-self, stage-rule, stage-row}
 use Rattle.filter.proofs.rounds.first_half.Statement.{statement}
 use Rattle.filter.proofs.rounds.first_half.Tie as tie
 
@@ -24,19 +27,24 @@ own : (b : tie.Start) → Own (w b) (y b)
 own b = own-in (w b) (b .args .s)
 
 s0 : (b : tie.Start) → Stage (y b) (b .args .s) (live (y b))
-s0 b = record { is = b .pre .1 .1 .0; same = same-self (y b) (b .pre .1 .0) }
+s0 b = record { is = b .pre .1 .1 .0; same = narrower-self (y b) (b .pre .1 .0) }
 
-s2 : (c : tie.After-rules-1-2) → let b = c .before .before in Stage (y b) (c .rules-1-2 .result) (rules1to2 (live (y b)))
+abbrev x2 : tie.Start → Step
+x2 b = inRow (rulesOf 1 2) (live (y b))
+
+abbrev x3 : tie.Start → Step
+x3 b = inRow (rulesOf 1 3) (live (y b))
+
+s2 : (c : tie.After-rules-1-2) → let b = c .before .before in Stage (y b) (c .rules-1-2 .result) (x2 b)
 s2 c =
     let b = c .before .before in
-    stage-next (w b) (y b) (own b) (b .args .s) (live (y b)) (s0 b) rules1to2 (c .rules-1-2 .result) (same-1-2 (y b) (live (y b)) (s0 b .same)) (c .rules-1-2 .ensures)
+    stage-row (w b) (y b) (own b) (b .args .s) (live (y b)) (s0 b) 1 2 (c .rules-1-2 .result) (c .rules-1-2 .ensures)
 
-s3 : (c : tie.After-rule-3) → let b = c .before .before .before .before .before in Stage (y b) (c .rule-3 .result) (overTerms rule3 (rules1to2 (live (y b))))
+s3 : (c : tie.After-rule-3) → let b = c .before .before .before .before .before in Stage (y b) (c .rule-3 .result) (x3 b)
 s3 c =
     let a = c .before .before .before in
     let b = a .before .before in
-    let x = rules1to2 (live (y b)) in
-    stage-next (w b) (y b) (own b) (a .rules-1-2 .result) x (s2 a) (overTerms rule3) (c .rule-3 .result) (same-3 (y b) x (s2 a .same)) (c .rule-3 .ensures)
+    stage-row (w b) (y b) (own b) (a .rules-1-2 .result) (x2 b) (s2 a) 3 3 (c .rule-3 .result) (c .rule-3 .ensures)
 
 -- ---- the needs
 
@@ -46,25 +54,26 @@ rules-1-2-requires c κs =
     (b .pre .1 .0, (stage-self (w b) (y b) (own b) (b .args .s) (live (y b)) (s0 b), b .pre .1 .1 .1))
 
 returns : tie.Need-returns
+unfolding firstHalf
 returns c =
     let a = c .before .before in
     let b = a .before .before in
-    let x = rules1to2 (live (y b)) in
+    let x = x2 b in
     let d = ne-eqb (x .rule) 0 (λ e. c .if1 .taken (stage-rule (w b) (y b) (own b) (a .rules-1-2 .result) x (s2 a) ∙ e)) in
-    s2 a .is ∙ ap held (sym (dead-1-2 (y b) d))
+    s2 a .is ∙ ap held (sym (row-last (rulesOf 3 5) (lawful-part 3 5) x d))
 
 rule-3-requires : tie.Need-rule-3-requires
 rule-3-requires c κs =
     let a = c .before .before in
     let b = a .before .before in
-    let x = rules1to2 (live (y b)) in
+    let x = x2 b in
     let r = a .rules-1-2 .result in
     (b .pre .0, (stage-sound (w b) (y b) (own b) r x (s2 a), (stage-self (w b) (y b) (own b) r x (s2 a), c .if1 .left)))
 
 rules-4-5-requires : tie.Need-rules-4-5-requires
 rules-4-5-requires c κs =
     let b = c .before .before .before .before .before in
-    let x = overTerms rule3 (rules1to2 (live (y b))) in
+    let x = x3 b in
     let r = c .rule-3 .result in
     (stage-sound (w b) (y b) (own b) r x (s3 c), stage-self (w b) (y b) (own b) r x (s3 c))
 
@@ -73,8 +82,8 @@ unfolding firstHalf
 returns-2 c =
     let a = c .before in
     let b = a .before .before .before .before .before in
-    let x = overTerms rule3 (rules1to2 (live (y b))) in
-    stage-next (w b) (y b) (own b) (a .rule-3 .result) x (s3 a) rules4to5 (c .rules-4-5 .result) (same-4-5 (y b) x (s3 a .same)) (c .rules-4-5 .ensures) .is
+    let x = x3 b in
+    stage-row (w b) (y b) (own b) (a .rule-3 .result) x (s3 a) 4 5 (c .rules-4-5 .result) (c .rules-4-5 .ensures) .is
 
 pub first-half-spec : {M : Type 1} → statement M
 first-half-spec =

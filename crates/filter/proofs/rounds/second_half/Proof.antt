@@ -5,13 +5,13 @@ use Prim.Native.Nat.{ℕ}
 use borrow.Author.Needs.{needs}
 use borrow.Author.Tests.{ne-eqb}
 use Rattle.year.specs.declared.Year.{Year}
-use Rattle.rules.specs.Step.{overTerms, held, yearIn, stepIn}
-use Rattle.rules.specs.Lists.{rule10}
-use Rattle.rules.specs.Packing.{rule11}
-use Rattle.rules.specs.Round.{once}
+use Rattle.rules.specs.Step.{held, yearIn, stepIn}
+use Rattle.rules.specs.Round.{inRow, rulesOf, rulesFrom}
 use Rattle.rules.specs.declared.Step.{Step}
-use Rattle.filter.specs.Halves.{rules6to9, secondHalf}
-use Rattle.filter.proofs.Stages.{same-self, same-6-9, same-10, dead-9, Own, own-in, Stage, stage-sound, stage-self, stage-step, stage-rule, stage-next}
+use Rattle.rules.proofs.Whole.{narrower-self}
+use Rattle.rules.proofs.Passes.{lawful-from, row-last}
+use Rattle.filter.specs.Halves.{secondHalf}
+use Rattle.filter.proofs.Stages.{Own, own-in, Stage, stage-sound, stage-self, stage-step, stage-rule, stage-row}
 use Rattle.filter.proofs.rounds.second_half.Statement.{statement}
 use Rattle.filter.proofs.rounds.second_half.Tie as tie
 
@@ -30,19 +30,24 @@ abbrev x5 : tie.Start → Step
 x5 b = stepIn (w b) (b .args .s)
 
 s5 : (b : tie.Start) → Stage (y b) (b .args .s) (x5 b)
-s5 b = record { is = b .pre .1 .1 .0; same = same-self (y b) (b .pre .1 .0) }
+s5 b = record { is = b .pre .1 .1 .0; same = narrower-self (y b) (b .pre .1 .0) }
 
-s9 : (c : tie.After-rules-6-to-9) → let b = c .before .before in Stage (y b) (c .rules-6-to-9 .result) (rules6to9 (x5 b))
+abbrev x9 : tie.Start → Step
+x9 b = inRow (rulesOf 6 9) (x5 b)
+
+abbrev x10 : tie.Start → Step
+x10 b = inRow (rulesOf 6 10) (x5 b)
+
+s9 : (c : tie.After-rules-6-to-9) → let b = c .before .before in Stage (y b) (c .rules-6-to-9 .result) (x9 b)
 s9 c =
     let b = c .before .before in
-    stage-next (w b) (y b) (own b) (b .args .s) (x5 b) (s5 b) rules6to9 (c .rules-6-to-9 .result) (same-6-9 (y b) (x5 b) (s5 b .same)) (c .rules-6-to-9 .ensures)
+    stage-row (w b) (y b) (own b) (b .args .s) (x5 b) (s5 b) 6 9 (c .rules-6-to-9 .result) (c .rules-6-to-9 .ensures)
 
-s10 : (c : tie.After-rule-10) → let b = c .before .before .before .before .before in Stage (y b) (c .rule-10 .result) (overTerms rule10 (rules6to9 (x5 b)))
+s10 : (c : tie.After-rule-10) → let b = c .before .before .before .before .before in Stage (y b) (c .rule-10 .result) (x10 b)
 s10 c =
     let a = c .before .before .before in
     let b = a .before .before in
-    let x = rules6to9 (x5 b) in
-    stage-next (w b) (y b) (own b) (a .rules-6-to-9 .result) x (s9 a) (overTerms rule10) (c .rule-10 .result) (same-10 (y b) x (s9 a .same)) (c .rule-10 .ensures)
+    stage-row (w b) (y b) (own b) (a .rules-6-to-9 .result) (x9 b) (s9 a) 10 10 (c .rule-10 .result) (c .rule-10 .ensures)
 
 -- ---- the needs
 
@@ -50,25 +55,26 @@ rules-6-to-9-requires : tie.Need-rules-6-to-9-requires
 rules-6-to-9-requires c κs = c .before .pre
 
 returns : tie.Need-returns
+unfolding secondHalf
 returns c =
     let a = c .before .before in
     let b = a .before .before in
-    let x = rules6to9 (x5 b) in
+    let x = x9 b in
     let d = ne-eqb (x .rule) 0 (λ e. c .if1 .taken (stage-rule (w b) (y b) (own b) (a .rules-6-to-9 .result) x (s9 a) ∙ e)) in
-    s9 a .is ∙ ap held (sym (dead-9 (x5 b) d))
+    s9 a .is ∙ ap held (sym (row-last (rulesFrom 10) (lawful-from 10) x d))
 
 rule-10-requires : tie.Need-rule-10-requires
 rule-10-requires c κs =
     let a = c .before .before in
     let b = a .before .before in
-    let x = rules6to9 (x5 b) in
+    let x = x9 b in
     let r = a .rules-6-to-9 .result in
     (b .pre .0, (stage-sound (w b) (y b) (own b) r x (s9 a), (stage-self (w b) (y b) (own b) r x (s9 a), c .if1 .left)))
 
 rule-11-requires : tie.Need-rule-11-requires
 rule-11-requires c κs =
     let b = c .before .before .before .before .before in
-    let x = overTerms rule10 (rules6to9 (x5 b)) in
+    let x = x10 b in
     let r = c .rule-10 .result in
     (b .pre .0, (stage-sound (w b) (y b) (own b) r x (s10 c), stage-self (w b) (y b) (own b) r x (s10 c)))
 
@@ -77,8 +83,8 @@ unfolding secondHalf
 returns-2 c =
     let a = c .before in
     let b = a .before .before .before .before .before in
-    let x = overTerms rule10 (rules6to9 (x5 b)) in
-    c .rule-11 .ensures ∙ ap (λ (p : Step). held (once rule11 p)) (stage-step (w b) (y b) (own b) (a .rule-10 .result) x (s10 a))
+    let x = x10 b in
+    c .rule-11 .ensures ∙ ap (λ (p : Step). held (inRow (rulesOf 11 11) p)) (stage-step (w b) (y b) (own b) (a .rule-10 .result) x (s10 a))
 
 pub second-half-spec : {M : Type 1} → statement M
 second-half-spec =
