@@ -8,10 +8,11 @@ use lib.Dec.{eqb, ltb}
 use lib.ListN.{length}
 use borrow.Author.Tests.{ltb-false}
 use Rattle.theory.specs.Choice.{choose}
-use Rattle.theory.specs.Tests.{or-false}
+use Rattle.theory.proofs.TestLaws.{or-false}
 use Rattle.year.specs.Sound.{isSound, Sound}
 use Rattle.year.specs.Sums.{fixedCredits}
-use Rattle.year.specs.Imbalance.{largest, spreadOf, onePlan, imbalanceOf}
+use Rattle.theory.specs.Largest.{largest}
+use Rattle.year.specs.Imbalance.{spreadOf, onePlan, imbalanceOf}
 use Rattle.year.specs.Numbers.{imbalanceValue}
 use Rattle.year.proofs.SoundLaws.{sound-of}
 use Rattle.year.proofs.SumLaws.{all-credits-le, possible-le}

@@ -1,5 +1,3 @@
--- Laws for the proofs of the code, and for the walks above.
+-- Laws for the proofs of the code.
 pub mod NearLaws
-pub mod KeptLaws
-pub mod TurnLaws
-pub mod StageLaws
+pub mod BoundsRows

@@ -7,21 +7,23 @@ use native.Mathlib.Decide.{ℕ-discrete, decLt}
 use lib.Dec.{eqb, ltb}
 use lib.ListN.{length, set}
 use lib.Seq.{getD-set-same, getD-set-other}
-use Rattle.theory.specs.Choice.{choose-any}
-use Rattle.theory.specs.Sum.{sum, sum-more, sum-le-mul, sum-change, sum-term-le}
-use Rattle.theory.specs.Load.{others, others-split}
+use Rattle.theory.proofs.ChoiceLaws.{choose-any}
+use Rattle.theory.specs.Sum.{sum}
+use Rattle.theory.proofs.SumLaws.{sum-more, sum-le-mul, sum-change, sum-term-le}
+use Rattle.theory.specs.Others.{others}
+use Rattle.theory.proofs.LoadLaws.{others-split}
 use Rattle.year.specs.Year.{termAt, zeroTerm}
 use Rattle.year.specs.Sums.{allCredits, fixedCredits, openCredits, fixedCount, openCount, sumsAt}
 use Rattle.year.specs.Sound.{Sound, TermSound}
 use Rattle.year.specs.Tight.{creditsWithin, countsWithin}
 use Rattle.year.specs.declared.Term.{Term}
 use Rattle.year.specs.declared.Year.{Year}
-use Rattle.year.specs.Parts.{termIn, highIn}
+use Rattle.totals.specs.Parts.{termIn, highIn, lowIn, leastIn, mostIn}
 use Rattle.rules.specs.Step.{outcome}
 use Rattle.rules.specs.Bounds.{rule1, rule2, rule4, rule5}
 use Rattle.rules.specs.declared.Outcome.{Outcome}
 use Rattle.rules.proofs.Steps.{credits-tighter, counts-tighter}
-use Rattle.bounds.specs.Near.{lowIn, leastIn, mostIn, totalsTo, totalsWith, totalsAfter, firstOf, secondOf, fourthOf, fifthOf, sharedOf}
+use Rattle.bounds.specs.Near.{totalsTo, totalsWith, totalsAfter, firstOf, secondOf, fourthOf, fifthOf, sharedOf}
 use Rattle.bounds.specs.declared.Totals.{Totals}
 
 -- ---- one entry more

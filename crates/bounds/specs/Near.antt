@@ -5,7 +5,7 @@ use mathlib.Core.List.{List}
 use lib.Dec.{eqb, ltb}
 use Rattle.theory.specs.Choice.{choose}
 use Rattle.theory.specs.Sum.{sum}
-use Rattle.year.specs.Parts.{termIn, highIn, sumsIn}
+use Rattle.totals.specs.Parts.{termIn, lowIn, highIn, leastIn, mostIn, sumsIn}
 use Rattle.year.specs.Tight.{creditsWithin, countsWithin}
 use Rattle.year.specs.declared.Term.{Term}
 use Rattle.year.specs.declared.Sums.{Sums}
@@ -13,16 +13,7 @@ use Rattle.rules.specs.Step.{outcome}
 use Rattle.rules.specs.declared.Outcome.{Outcome}
 use Rattle.bounds.specs.declared.Totals.{Totals}
 
--- ---- the bounds of the terms in an array
-
-abbrev pub lowIn : List Term → ℕ → ℕ
-lowIn t k = termIn t k .low .0
-
-abbrev pub leastIn : List Term → ℕ → ℕ
-leastIn t k = termIn t k .least .0
-
-abbrev pub mostIn : List Term → ℕ → ℕ
-mostIn t k = termIn t k .most .0
+-- ---- sums of bounds
 
 -- the sums of the bounds over the first n entries
 abbrev pub totalsTo : List Term → ℕ → Totals

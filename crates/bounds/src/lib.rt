@@ -1,24 +1,16 @@
 // Rules 1, 2, 4 and 5: a term's bounds against its own sums, and against the other terms' bounds, over the terms of the year.
 pub mod near;
 
-use rules::State;
+use frame::State;
 use year::Courses;
 use year::Credits;
-use year::Term;
 ghost use mathlib.Core.Path.{_≡_};
 ghost use Rattle.year.specs.Sums.{allCredits};
 ghost use Rattle.year.specs.Sound.{Sound};
-ghost use Rattle.rules.specs.Step.{overTerms, held, yearIn, stepIn};
+ghost use Rattle.rules.specs.Step.{overTerms};
+ghost use Rattle.frame.specs.State.{held, yearIn, stepIn};
 ghost use Rattle.rules.specs.Bounds.{rule1, rule2, rule4, rule5};
 ghost use Rattle.rules.specs.Round.{bounded};
-ghost use Rattle.bounds.specs.Turns.{withBounds};
-
-// The bounds of a year on their way through rules that alter nothing else.
-pub struct Bounds {
-    pub term: [Term; 16],
-    pub altered: bool,
-    pub rule: u32,
-}
 
 // The sums of each bound over all terms.
 pub struct Totals {
@@ -26,30 +18,6 @@ pub struct Totals {
     pub high: Credits,
     pub least: Courses,
     pub most: Courses,
-}
-
-// The bounds of a state.
-pub fn bounds_of(s: State) -> Bounds
-    ensures { λ r. ⌜ r ≡ record { term = s .term; altered = s .altered; rule = s .rule } ⌝ }
-{
-    let t = s.term;
-    Bounds {
-        term: t,
-        altered: s.altered,
-        rule: s.rule,
-    }
-}
-
-// A state with other bounds.
-pub fn with_bounds(s: State, b: Bounds) -> State
-    ensures { λ r. ⌜ r ≡ withBounds s b ⌝ }
-{
-    let mut z = s;
-    let t = b.term;
-    z.term = t;
-    z.altered = b.altered;
-    z.rule = b.rule;
-    z
 }
 
 // Rules 1 and 2. The weights are those of the year that the state holds, and `all` is their sum.
@@ -60,9 +28,9 @@ pub fn rules_1_2(s: State, weight: &[u32], all: u32) -> State
     ensures { λ r. ⌜ r ≡ held (overTerms (bounded rule2) (overTerms (bounded rule1) (stepIn (now (weight .entry)) s))) ⌝ }
 {
     let sums = s.sums;
-    let b1 = near::own_rule(bounds_of(s), 1, s.terms, sums);
+    let b1 = near::own_rule(frame::bounds_of(s), 1, s.terms, sums);
     let b2 = near::shared_rule(b1, 2, s.terms, all);
-    with_bounds(s, b2)
+    frame::with_bounds(s, b2)
 }
 
 // Rules 4 and 5.
@@ -72,7 +40,7 @@ pub fn rules_4_5(s: State, weight: &[u32]) -> State
     ensures { λ r. ⌜ r ≡ held (overTerms (bounded rule5) (overTerms (bounded rule4) (stepIn (now (weight .entry)) s))) ⌝ }
 {
     let sums = s.sums;
-    let b4 = near::own_rule(bounds_of(s), 4, s.terms, sums);
+    let b4 = near::own_rule(frame::bounds_of(s), 4, s.terms, sums);
     let b5 = near::shared_rule(b4, 5, s.terms, s.courses as u32);
-    with_bounds(s, b5)
+    frame::with_bounds(s, b5)
 }

@@ -1,40 +1,19 @@
 // Rules 1, 2, 4 and 5: a term's bounds against its own sums, and against the other terms' bounds.
-use crate::Bounds;
 use crate::Totals;
+use frame::Bounds;
 use rules::Outcome;
 use year::Courses;
 use year::Credits;
 use year::Sums;
 use year::Term;
-use year::Tight;
 use year::tighter;
 ghost use mathlib.Core.Path.{_≡_};
 ghost use Prim.Native.Nat.{ℕ, _-_, _≤_, _<_};
 ghost use lib.ListN.{length};
 ghost use Rattle.year.specs.Sound.{TermSound};
-ghost use Rattle.year.specs.Parts.{termIn, sumsIn};
-ghost use Rattle.rules.specs.Step.{outcome};
+ghost use Rattle.totals.specs.Parts.{termIn, sumsIn};
 ghost use Rattle.bounds.specs.Near.{totalsTo, totalsWith, totalsAfter, firstOf, secondOf, fourthOf, fifthOf, ownOf, sharedOf, ownAt, sharedAt};
-ghost use Rattle.bounds.specs.Turns.{overFirst};
-
-// The tighter bounds w of term t under a rule, unless they cross or the rule itself fails.
-pub fn outcome(rule: u32, fails: bool, t: Term, w: Tight) -> Outcome
-    ensures { λ r. ⌜ r ≡ outcome rule fails t w ⌝ }
-{
-    if fails | w.crossed {
-        return Outcome {
-            term: t,
-            altered: false,
-            rule: rule,
-        };
-    }
-    let term = w.term;
-    Outcome {
-        term: term,
-        altered: w.altered,
-        rule: 0,
-    }
-}
+ghost use Rattle.frame.specs.Bounds.{boundsOver};
 
 fn with_term(x: Totals, t: Term) -> Totals
     requires { ⌜ TermSound t ⌝ }
@@ -69,7 +48,7 @@ fn totals(term: [Term; 16]) -> Totals
 fn first(t: Term, u: Sums) -> Outcome
     ensures { λ r. ⌜ r ≡ firstOf t u ⌝ }
 {
-    outcome(
+    frame::outcome(
         1,
         false,
         t,
@@ -82,7 +61,7 @@ fn second(t: Term, x: Totals, all: u32) -> Outcome
 {
     let lows = tighter::less(x.low.0, t.low.0);
     let highs = tighter::less(x.high.0, t.high.0);
-    outcome(
+    frame::outcome(
         2,
         all < lows,
         t,
@@ -94,7 +73,7 @@ fn fourth(t: Term, u: Sums) -> Outcome
     requires { ⌜ (u .placed .0 ≤ 64) × (u .free .0 ≤ 64) ⌝ }
     ensures { λ r. ⌜ r ≡ fourthOf t u ⌝ }
 {
-    outcome(
+    frame::outcome(
         4,
         false,
         t,
@@ -107,7 +86,7 @@ fn fifth(t: Term, x: Totals, all: u32) -> Outcome
 {
     let leasts = tighter::less(x.least.0, t.least.0);
     let mosts = tighter::less(x.most.0, t.most.0);
-    outcome(
+    frame::outcome(
         5,
         all < leasts,
         t,
@@ -138,7 +117,7 @@ fn shared(rule: u32, t: Term, x: Totals, all: u32) -> Outcome
 pub fn own_rule(b: Bounds, rule: u32, m: usize, sums: [Sums; 16]) -> Bounds
     requires { ⌜ (m ≤ 16) × (length (b .term) ≡ 16) ⌝ }
     requires { ⌜ ((k : ℕ) → k < 16 → (sumsIn sums k .placed .0 ≤ 64) × (sumsIn sums k .free .0 ≤ 64)) ⌝ }
-    ensures { λ r. ⌜ r ≡ overFirst (ownAt rule sums) b m ⌝ }
+    ensures { λ r. ⌜ r ≡ boundsOver (ownAt rule sums) b m ⌝ }
 {
     let mut z = b;
     let mut j = 0;
@@ -172,7 +151,7 @@ fn changed(x: Totals, t: Term, v: Term) -> Totals
 pub fn shared_rule(b: Bounds, rule: u32, m: usize, all: u32) -> Bounds
     requires { ⌜ (m ≤ 16) × (length (b .term) ≡ 16) ⌝ }
     requires { ⌜ ((k : ℕ) → k < 16 → TermSound (termIn (b .term) k)) ⌝ }
-    ensures { λ r. ⌜ r ≡ overFirst (sharedAt rule all) b m ⌝ }
+    ensures { λ r. ⌜ r ≡ boundsOver (sharedAt rule all) b m ⌝ }
 {
     let mut z = b;
     let term = b.term;

@@ -7,24 +7,23 @@ use native.Mathlib.Omega.{arith}
 use lib.Dec.{eqb}
 use lib.ListN.{length, getD}
 use borrow.Author.Tests.{eq-eqb, ne-eqb}
-use Rattle.theory.specs.Tab.{length-tab}
+use Rattle.theory.proofs.TabLaws.{length-tab}
 use Rattle.year.specs.Year.{weight}
-use Rattle.year.specs.Parts.{weightsOf}
+use Rattle.totals.specs.Parts.{weightsOf}
 use Rattle.year.specs.Sums.{allCredits}
 use Rattle.year.specs.Sound.{Sound}
 use Rattle.year.specs.declared.Year.{Year}
-use Rattle.year.proofs.PartLaws.{own-weights}
-use Rattle.rules.specs.Step.{live, held, yearIn, stepIn}
+use Rattle.totals.proofs.PartLaws.{own-weights}
+use Rattle.rules.specs.Step.{live, Step}
+use Rattle.frame.specs.State.{held, yearIn, stepIn}
 use Rattle.rules.specs.Round.{rulesOf, rulesFrom, round}
-use Rattle.rules.specs.declared.Step.{Step}
-use Rattle.rules.specs.declared.State.{State}
-use Rattle.rules.proofs.Measure.{measure, measure-most}
-use Rattle.rules.proofs.Whole.{Narrower, narrower-self, narrower-then}
-use Rattle.rules.proofs.Passes.{row-narrower, row-last, lawful-part, lawful-from, whole-round}
-use Rattle.walks.specs.Orders.{ordersIn, ordersOf}
-use Rattle.walks.specs.declared.Orders.{Orders}
-use Rattle.walks.proofs.OrderLaws.{orders-are}
-use Rattle.walks.proofs.WalkStages.{orders-weights}
+use Rattle.frame.specs.declared.State.{State}
+use Rattle.rules.proofs.Leeway.{leeway, leeway-most}
+use Rattle.rules.proofs.Narrows.{Narrower, narrower-self, narrower-then}
+use Rattle.rules.proofs.Passes.{row-narrower, row-last, lawful-part, lawful-from, narrows-round}
+use Rattle.orders.specs.Orders.{ordersIn, ordersOf}
+use Rattle.orders.specs.declared.Orders.{Orders}
+use Rattle.orders.proofs.OrderLaws.{orders-are, orders-weights}
 use Rattle.filter.specs.Filter.{filtered, atRest, roundsFrom}
 use Rattle.filter.specs.Halves.{firstHalf, secondHalf, halves}
 use Rattle.filter.specs.declared.Answer.the-variants.{NoPlan}
@@ -33,10 +32,10 @@ use Rattle.filter.proofs.Stages.{Own, Stage, stage-sound, stage-self, s
 use Rattle.filter.proofs.RoundLaws.{left, dies, rests, goes-on, round-falls}
 
 -- after n rounds, each of which altered something: what is left to do from the year at hand gives what the whole filtering
--- gives, and the measure of that year has fallen by at least one a round
+-- gives, and the leeway of that year has fallen by at least one a round
 pub record Going (y : Year) (w : List ℕ) (o : Orders) (s : State) (n : ℕ) : Type 0 where
   pub from : roundsFrom 1025985 y y 0 ≡ roundsFrom (left n) y (yearIn w s) n
-  pub few : measure (yearIn w s) + n ≤ 1025984
+  pub few : leeway (yearIn w s) + n ≤ 1025984
   pub same : Narrower y (yearIn w s)
   pub is : s ≡ held (live (yearIn w s))
   pub orders : (n + 1 ≡ 1 → ⊥) → o ≡ ordersIn w (y .courses)
@@ -56,7 +55,7 @@ module _ (y : Year) (w : List ℕ) (sound : Sound y) (e : w ≡ weightsOf y) whe
       let year : yearIn w s ≡ y = stage-year w y own s (live y) st in
       record {
         from = ap (λ (x : Year). roundsFrom 1025985 y x 0) (sym year);
-        few = subst (λ (x : Year). measure x + 0 ≤ 1025984) (sym year) (omega (arith, measure-most y sound));
+        few = subst (λ (x : Year). leeway x + 0 ≤ 1025984) (sym year) (omega (arith, leeway-most y sound));
         same = subst (Narrower y) (sym year) (narrower-self y sound);
         is = q ∙ ap (λ (x : Year). held (live x)) (sym year);
         orders = λ d. absurd (d refl);
@@ -123,7 +122,7 @@ module _ (y : Year) (w : List ℕ) (sound : Sound y) (e : w ≡ weightsOf y) whe
         st2 : Stage y r2 (round z)
         st2 = record {
           is = e2 ∙ ap (λ (p : Step). held (secondHalf p)) (stage-step w y own r1 (firstHalf z) st1) ∙ ap held (sym (halves z));
-          same = narrower-then y z (round z .year) (g .same) (whole-round z (g .same .sound) .year);
+          same = narrower-then y z (round z .year) (g .same) (narrows-round z (g .same .sound) .year);
         }
 
         rule-is : r2 .rule ≡ round z .rule
@@ -156,8 +155,8 @@ module _ (y : Year) (w : List ℕ) (sound : Sound y) (e : w ≡ weightsOf y) whe
             ∙ sym (g .from)
 
         -- or there is less to narrow, and the filtering goes on
-        pub second-falls : r2 .altered ≡ true → measure (yearIn w r2) < measure z
-        second-falls a = subst (λ (x : Year). measure x < measure z) (sym year-is) (round-falls z (g .same .sound) (sym altered-is ∙ a))
+        pub second-falls : r2 .altered ≡ true → leeway (yearIn w r2) < leeway z
+        second-falls a = subst (λ (x : Year). leeway x < leeway z) (sym year-is) (round-falls z (g .same .sound) (sym altered-is ∙ a))
 
         abbrev again : State
         again = record {

@@ -1,4 +1,4 @@
--- How rounds go on after n of them. The number that makes the recursion end never runs out: every altering round lowers the measure.
+-- How rounds go on after n of them. The number that makes the recursion end never runs out: every altering round lowers the leeway.
 use Prim.Native.Nat.{ℕ, zero, suc, _+_, _-_, _≤_, _<_}
 use mathlib.Core.Bool.{Bool, true, false}
 use mathlib.Core.Path.{_≡_}
@@ -8,9 +8,9 @@ use Rattle.year.specs.Sound.{Sound}
 use Rattle.year.specs.declared.Year.{Year}
 use Rattle.year.proofs.SoundLaws.{sound-to}
 use Rattle.rules.specs.Round.{round}
-use Rattle.rules.proofs.Measure.{measure}
-use Rattle.rules.proofs.Whole.{Narrower, narrower-self, narrower-then}
-use Rattle.rules.proofs.Passes.{whole-round}
+use Rattle.rules.proofs.Leeway.{leeway}
+use Rattle.rules.proofs.Narrows.{Narrower, narrower-self, narrower-then}
+use Rattle.rules.proofs.Passes.{narrows-round}
 use Rattle.filter.specs.Filter.{filtered, atRest, roundsFrom, filterOf}
 use Rattle.filter.specs.declared.Answer.the-variants.{NoPlan}
 use Rattle.filter.specs.declared.Filtered.{Filtered}
@@ -39,8 +39,8 @@ module _ (y z : Year) (n : ℕ) (few : n ≤ 1025984) where
   goes-on d a = rw (is, next, d, a, roundsFrom)
 
 -- an altering round leaves less to narrow
-pub round-falls : (z : Year) → Sound z → round z .altered ≡ true → measure (round z .year) < measure z
-round-falls z s a = let w = rw a at (whole-round z s .falls) in omega arith
+pub round-falls : (z : Year) → Sound z → round z .altered ≡ true → leeway (round z .year) < leeway z
+round-falls z s a = let w = rw a at (narrows-round z s .falls) in omega arith
 
 -- ---- what is left of the year in the end
 
@@ -49,7 +49,7 @@ module _ (y : Year) (s : Sound y) where
   unfolding roundsFrom
   rounds-narrower zero z n a = a
   rounds-narrower (suc k) z n a =
-      let after = narrower-then y z (round z .year) a (whole-round z (a .sound) .year) in
+      let after = narrower-then y z (round z .year) a (narrows-round z (a .sound) .year) in
       go (eqb (round z .rule) 0) (round z .altered) after (rounds-narrower k (round z .year) (n + 1) after)
     where
       go : (d b : Bool) → Narrower y (round z .year) → Narrower y (roundsFrom k y (round z .year) (n + 1) .year)

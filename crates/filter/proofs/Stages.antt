@@ -8,13 +8,13 @@ use Rattle.year.specs.Sums.{allCredits}
 use Rattle.year.specs.Sound.{Sound}
 use Rattle.year.specs.declared.Course.{Course}
 use Rattle.year.specs.declared.Year.{Year}
-use Rattle.year.proofs.PartLaws.{course-in}
-use Rattle.rules.specs.Step.{held, yearIn, stepIn}
+use Rattle.totals.proofs.PartLaws.{course-in}
+use Rattle.frame.specs.State.{held, yearIn, stepIn}
+use Rattle.rules.specs.Step.{Step}
 use Rattle.rules.specs.Round.{inRow, rulesOf}
-use Rattle.rules.specs.declared.Step.{Step}
-use Rattle.rules.specs.declared.State.{State}
-use Rattle.rules.proofs.Whole.{Narrower, credits-same}
-use Rattle.rules.proofs.Holding.{year-held, step-held, sound-held, held-self}
+use Rattle.frame.specs.declared.State.{State}
+use Rattle.rules.proofs.Narrows.{Narrower, credits-same}
+use Rattle.frame.proofs.StateLaws.{year-held, step-held, sound-held, held-self}
 use Rattle.rules.proofs.Passes.{row-narrower, lawful-part}
 
 -- weights that are the year's own

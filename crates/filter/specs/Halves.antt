@@ -1,9 +1,8 @@
 -- A round in two halves: rules 1 to 5, which read no order of the courses, and rules 6 to 11.
 use mathlib.Core.Path.{_≡_, refl}
 use Rattle.year.specs.declared.Year.{Year}
-use Rattle.rules.specs.Step.{live}
+use Rattle.rules.specs.Step.{live, Step}
 use Rattle.rules.specs.Round.{inRow, rulesOf, rulesFrom, round}
-use Rattle.rules.specs.declared.Step.{Step}
 
 unfoldable pub firstHalf : Year → Step
 firstHalf y = inRow (rulesOf 1 5) (live y)

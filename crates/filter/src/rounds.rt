@@ -1,19 +1,20 @@
 // One round in two halves, and rounds in a row.
 use crate::Answer;
 use crate::Filtered;
-use rules::State;
+use frame::State;
+use orders::Orders;
+use totals::Columns;
 use totals::parts;
-use walks::Orders;
-use year::Columns;
 use year::Year;
 ghost use mathlib.Core.Path.{_≡_};
 ghost use Prim.Native.Nat.{ℕ, _≤_, _<_};
 ghost use lib.ListN.{length, getD};
-ghost use Rattle.year.specs.Parts.{columnsOf};
+ghost use Rattle.totals.specs.Parts.{columnsOf};
 ghost use Rattle.year.specs.Sums.{allCredits};
 ghost use Rattle.year.specs.Sound.{Sound};
-ghost use Rattle.walks.specs.Orders.{ordersIn, ordersOf};
-ghost use Rattle.rules.specs.Step.{live, held, yearIn, stepIn};
+ghost use Rattle.orders.specs.Orders.{ordersIn, ordersOf};
+ghost use Rattle.rules.specs.Step.{live};
+ghost use Rattle.frame.specs.State.{held, yearIn, stepIn};
 ghost use Rattle.filter.specs.declared.Answer.the-variants.{NoPlan};
 ghost use Rattle.filter.specs.Halves.{firstHalf, secondHalf};
 ghost use Rattle.filter.specs.Filter.{filtered, atRest, roundsFrom};
@@ -80,7 +81,7 @@ fn orders_by(o: Orders, round: u32, weight: &[u32], n: usize) -> Orders
     ensures { λ r. ⌜ r ≡ ordersIn (now (weight .entry)) n ⌝ }
 {
     if round == 1 {
-        return walks::orders_of(weight, n);
+        return orders::orders_of(weight, n);
     }
     o
 }

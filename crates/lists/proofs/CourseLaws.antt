@@ -4,23 +4,24 @@ use mathlib.Core.Bool.{Bool, true, false, or-true, or-false, true≢false}
 use mathlib.Core.Path.{_≡_, refl, sym, ap, ap₂, _∙_, subst}
 use native.Mathlib.Omega.{arith}
 use lib.ListN.{length, set}
-use Rattle.theory.specs.Bits.{has-le}
-use Rattle.theory.specs.Tab.{set-tab}
+use Rattle.theory.specs.Fold.{fold}
+use Rattle.theory.proofs.BitLaws.{has-le}
+use Rattle.theory.proofs.TabLaws.{set-tab}
 use Rattle.year.specs.Year.{termAt, courseAt, weight, list, isOpen, withList, placed, struck}
 use Rattle.year.specs.Sums.{fixedCredits, possibleCredits}
-use Rattle.year.specs.Parts.{listsOf}
+use Rattle.totals.specs.Parts.{listsOf}
 use Rattle.year.specs.Sound.{Sound}
 use Rattle.year.specs.declared.Course.{Course}
 use Rattle.year.specs.declared.Term.{Term}
 use Rattle.year.specs.declared.Year.{Year}
 use Rattle.year.proofs.DoorLaws.{course-same, course-other}
 use Rattle.year.proofs.SumLaws.{possible-le, all-credits-le}
-use Rattle.rules.specs.Step.{live, judged, next, overTo, over-more}
+use Rattle.rules.specs.Step.{goes, then, live, judged, next, overTo, Step, joined}
+use Rattle.theory.proofs.FoldLaws.{fold-more}
 use Rattle.rules.specs.Lists.{verdict3, rule3Course, verdict10, rule10Course}
-use Rattle.rules.specs.declared.Step.{Step}
 use Rattle.rules.specs.declared.Verdict.{Verdict}
 use Rattle.rules.specs.declared.Verdict.the-variants.{Stays, Struck, Fixed}
-use Rattle.rules.proofs.Whole.{Whole, whole-rest, whole-over, joined, Lawful}
+use Rattle.rules.proofs.Narrows.{Narrows, narrows-rest, narrows-over, Lawful}
 use Rattle.rules.proofs.Steps.{lawful-3, lawful-10}
 use Rattle.lists.specs.Judge.{kept, keptOf, verdictOf, judgeCourse}
 use Rattle.lists.specs.declared.Judge.{Judge}
@@ -69,10 +70,10 @@ verdict-open w c t p P j d = go (isOpen c j) refl
 
 pub lawful : (w : Judge) (terms courses j : ℕ) → j < terms → Lawful terms courses (judgeCourse w j) courses
 unfolding judgeCourse rule3Course rule10Course
-lawful Rests terms courses j l = λ z k s t c h. whole-rest z 0 s
+lawful Rests terms courses j l = λ z k s t c h. narrows-rest z 0 s
 lawful Credits terms courses j l = lawful-3 terms courses j l
 lawful (Counts full needed) terms courses j l = lawful-10 terms courses j full needed l
-lawful Fails terms courses j l = λ z k s t c h. whole-rest z 0 s
+lawful Fails terms courses j l = λ z k s t c h. narrows-rest z 0 s
 
 -- ---- the first n courses
 
@@ -104,7 +105,7 @@ onward-judged y n j s Fixed o = record {
 }
 
 pub onward : (w : Judge) (j : ℕ) (y : Year) (n : ℕ) → Onward y n (overTo (judgeCourse w j) (live y) n)
-unfolding overTo
+unfolding fold
 onward w j y zero = record { goes-on = refl; term-same = refl; course-same = λ i h. refl; quiet = λ e. refl }
 onward w j y (suc n) =
     let s = overTo (judgeCourse w j) (live y) n in
@@ -139,11 +140,11 @@ module _ (w : Judge) (y : Year) (j i : ℕ) (k : Kept) (c : Course) (sound : Sou
   o : Onward y i s
   o = onward w j y i
 
-  whole : Whole y s
-  whole = whole-over (judgeCourse w j) (y .courses) y (live y) (lawful w (y .terms) (y .courses) j j-in) (whole-rest y 0 sound) i (omega arith)
+  narrows : Narrows y s
+  narrows = narrows-over (judgeCourse w j) (y .courses) y (live y) (lawful w (y .terms) (y .courses) j j-in) (narrows-rest y 0 sound) i (omega arith)
 
   inside : i < s .year .courses
-  inside = omega (arith, whole .year .courses-same)
+  inside = omega (arith, narrows .year .courses-same)
 
   -- the course was not altered yet
   course : c ≡ courseAt (s .year) i
@@ -160,13 +161,13 @@ module _ (w : Judge) (y : Year) (j i : ℕ) (k : Kept) (c : Course) (sound : Sou
   same = rw (fixed-is, possible-is, course, o .term-same)
 
   after : (u : Verdict) → v ≡ u → keptOf (joined s (judged (s .year) i j u)) j ≡ keptTo w y j (i + 1)
-  after u e = ap (λ t. keptOf t j) (sym (over-more (judgeCourse w j) (live y) i ∙ turn w j s i u (o .goes-on) (sym same ∙ e)))
+  after u e = ap (λ t. keptOf t j) (sym (fold-more goes (then (judgeCourse w j)) (live y) i ∙ turn w j s i u (o .goes-on) (sym same ∙ e)))
 
   is-open : (v ≡ Stays → ⊥) → isOpen (courseAt (s .year) i) j ≡ true
   is-open d = rw course at (verdict-open w c (termAt y j) (k .fixed) (k .possible) j d)
 
   list-is : (l : ℕ) → set (k .list) i l ≡ listsOf (withList (s .year) i l)
-  list-is l = ap (λ (z : Kept). set (z .list) i l) inv ∙ lists-after (s .year) i l (omega (arith, whole .year .sound))
+  list-is l = ap (λ (z : Kept). set (z .list) i l) inv ∙ lists-after (s .year) i l (omega (arith, narrows .year .sound))
 
   struck-open : v ≡ Struck → isOpen (courseAt (s .year) i) j ≡ true
   struck-open e = is-open (λ q. let z : _≡_ {A = ℕ} 0 1 = cc in omega arith)
@@ -176,22 +177,22 @@ module _ (w : Judge) (y : Year) (j i : ℕ) (k : Kept) (c : Course) (sound : Sou
 
   pub turn-at : Turn w y j i k c
   turn-at = record {
-    p-small = rw (course, fixed-is) (small (s .year) i j (whole .year .sound) inside);
+    p-small = rw (course, fixed-is) (small (s .year) i j (narrows .year .sound) inside);
     stays = λ e. inv ∙ ap (λ b. kept (s .year) b j) (sym (or-false (s .altered))) ∙ after Stays e;
-    is-listed = λ e. rw course (has-le (list (s .year) i) j (lists-it (s .year) i j (whole .year .sound) inside (struck-open e)));
-    is-possible = λ e. rw (course, possible-is) (weight-le (s .year) i j (whole .year .sound) inside (struck-open e));
+    is-listed = λ e. rw course (has-le (list (s .year) i) j (lists-it (s .year) i j (narrows .year .sound) inside (struck-open e)));
+    is-possible = λ e. rw (course, possible-is) (weight-le (s .year) i j (narrows .year .sound) inside (struck-open e));
     strikes = λ e p q.
         kept-is _ (struck (s .year) i j) _ j
         (ap₂ (λ (x : Course) l. set (k .list) i (x .list - l)) course q ∙ list-is (list (s .year) i - 2 ^ j))
-        (fixed-is ∙ sym (struck-fixed (s .year) i j (whole .year .sound) inside (struck-open e)))
-        (ap₂ (λ p (x : Course). p - x .weight .0) possible-is course ∙ sym (struck-possible (s .year) i j (whole .year .sound) inside (struck-open e)))
+        (fixed-is ∙ sym (struck-fixed (s .year) i j (narrows .year .sound) inside (struck-open e)))
+        (ap₂ (λ p (x : Course). p - x .weight .0) possible-is course ∙ sym (struck-possible (s .year) i j (narrows .year .sound) inside (struck-open e)))
         (sym (or-true (s .altered)))
         ∙ after Struck e;
     fixes = λ e p q.
         kept-is _ (placed (s .year) i j) _ j
         (ap (set (k .list) i) q ∙ list-is (2 ^ j))
-        (ap₂ (λ p (x : Course). p + x .weight .0) fixed-is course ∙ sym (placed-fixed (s .year) i j (whole .year .sound) inside (fixed-open e)))
-        (possible-is ∙ sym (placed-possible (s .year) i j (whole .year .sound) inside (fixed-open e)))
+        (ap₂ (λ p (x : Course). p + x .weight .0) fixed-is course ∙ sym (placed-fixed (s .year) i j (narrows .year .sound) inside (fixed-open e)))
+        (possible-is ∙ sym (placed-possible (s .year) i j (narrows .year .sound) inside (fixed-open e)))
         (sym (or-true (s .altered)))
         ∙ after Fixed e;
   }

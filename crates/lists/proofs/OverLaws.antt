@@ -1,28 +1,30 @@
 -- Rules on lists over the terms of a year: what stays as it was, and a turn of the code's loop.
-use Prim.Native.Nat.{ℕ, zero, suc, _+_, _≤_, _<_}
-use mathlib.Core.Bool.{Bool, true, false, _&&_, _||_, or-false, or-assoc}
+use Prim.Native.Nat.{ℕ, _+_, _≤_, _<_}
+use mathlib.Core.Bool.{false, _&&_, _||_, or-false}
 use mathlib.Core.List.{List}
 use mathlib.Core.Path.{_≡_, refl, sym, ap, ap₂, _∙_}
 use native.Mathlib.Nat.{le-refl}
 use native.Mathlib.Omega.{arith}
 use lib.Dec.{eqb, ltb}
 use lib.ListN.{getD}
-use borrow.Author.Tests.{ltb-false}
-use Rattle.theory.specs.Choice.{choose, choose-any}
-use Rattle.theory.specs.Tab.{tab, getD-tab}
+use Rattle.theory.specs.Choice.{choose}
+use Rattle.theory.proofs.FoldLaws.{fold-more, fold-keeps, fold-finish}
+use Rattle.theory.specs.Tab.{tab}
+use Rattle.theory.proofs.TabLaws.{getD-tab}
 use Rattle.year.specs.Year.{zeroTerm, termAt, weight, lowCredits}
 use Rattle.year.specs.Sums.{openWeight, fixedCredits, fixedCount, openCount, sumsAt, noSums}
 use Rattle.year.specs.Sound.{Sound}
 use Rattle.year.specs.declared.Sums.{Sums}
 use Rattle.year.specs.declared.Year.{Year}
 use Rattle.year.proofs.SumLaws.{sums-read, possible-le, all-credits-le, counts-le}
-use Rattle.rules.specs.Step.{step, live, next, overTo, over-more, overTerms, held, yearIn, stepIn}
+use Rattle.rules.specs.Step.{goes, then, step, live, next, overTo, overTerms, Step}
+use Rattle.frame.specs.State.{held, yearIn, stepIn}
 use Rattle.rules.specs.Lists.{rule3, rule10}
-use Rattle.rules.specs.declared.Step.{Step}
-use Rattle.rules.specs.declared.State.{State}
-use Rattle.rules.proofs.Whole.{Whole, whole-rest, whole-over, joined, over-dead}
-use Rattle.rules.proofs.Steps.{whole-3, whole-10}
-use Rattle.rules.proofs.Holding.{year-held, step-held, sound-held, held-self, sums-held}
+use Rattle.frame.specs.declared.State.{State}
+use Rattle.rules.proofs.Narrows.{Narrows, narrows-rest, narrows-over}
+use Rattle.rules.proofs.Passes.{over-joined}
+use Rattle.rules.proofs.Steps.{narrows-3, narrows-10}
+use Rattle.frame.proofs.StateLaws.{year-held, step-held, sound-held, held-self, sums-held}
 use Rattle.lists.specs.Judge.{judge3, judge10, judgeTerm}
 use Rattle.lists.specs.Tops.{topAt}
 use Rattle.lists.specs.declared.Judge.{Judge}
@@ -33,9 +35,9 @@ use Rattle.lists.proofs.TermLaws.{step-is, weights-stay, rests-is, cred
 
 -- ---- a rule on lists
 
--- it leaves a whole year, and the terms as they are
+-- it leaves a narrows year, and the terms as they are
 record OnLists (rule : Year → ℕ → Step) : Type 0 where
-  pub whole : (y : Year) (j : ℕ) → Sound y → j < y .terms → Whole y (rule y j)
+  pub narrows : (y : Year) (j : ℕ) → Sound y → j < y .terms → Narrows y (rule y j)
   pub terms : (y : Year) (j : ℕ) → rule y j .year .term ≡ y .term
 
 terms-judged : (w : Judge) (y : Year) (j : ℕ) → judgeTerm w y j .year .term ≡ y .term
@@ -46,37 +48,20 @@ terms-judged Fails y j = refl
 
 lists-3 : OnLists rule3
 lists-3 = record {
-  whole = λ y j s h. whole-3 y j s h;
+  narrows = λ y j s h. narrows-3 y j s h;
   terms = λ y j. ap (λ (s : Step). s .year .term) (credits-is y j) ∙ terms-judged Credits y j;
 }
 
 lists-10 : OnLists rule10
 lists-10 = record {
-  whole = λ y j s h. whole-10 y j s h;
+  narrows = λ y j s h. narrows-10 y j s h;
   terms = λ y j. ap (λ (s : Step). s .year .term) (judged-10 y j) ∙ terms-judged (judge10 (termAt y j) (sumsAt y j)) y j;
 }
 
 -- ---- over the terms
 
--- what was altered before does not count for what is altered now
-next-joined : (f : Year → ℕ → Step) (s t : Step) (k : ℕ) → next f (joined s t) k ≡ joined s (next f t k)
-next-joined f s t k = go (eqb (t .rule) 0) refl
-  where
-    go : (b : Bool) → eqb (t .rule) 0 ≡ b → next f (joined s t) k ≡ joined s (next f t k)
-    go true e = rw e (step-is refl (or-assoc (s .altered) (t .altered) (f (t .year) k .altered)) refl)
-    go false e = rw e
-
-over-joined : (f : Year → ℕ → Step) (s : Step) → s .rule ≡ 0 → (n : ℕ) → overTo f s n ≡ joined s (overTo f (live (s .year)) n)
-unfolding overTo
-over-joined f s z zero = step-is refl (sym (or-false (s .altered))) z
-over-joined f s z (suc n) = ap (λ t. next f t n) (over-joined f s z n) ∙ next-joined f s (overTo f (live (s .year)) n) n
-
 terms-over : (f : Year → ℕ → Step) → OnLists f → (y : Year) (n : ℕ) → overTo f (live y) n .year .term ≡ y .term
-unfolding overTo
-terms-over f l y zero = refl
-terms-over f l y (suc n) =
-    let s = overTo f (live y) n in
-    choose-any (λ (t : Step). t .year .term ≡ y .term) (eqb (s .rule) 0) _ s (l .terms (s .year) n ∙ terms-over f l y n) (terms-over f l y n)
+terms-over f l y n = fold-keeps goes (then f) (live y) (λ z. z .year .term ≡ y .term) n (λ z k h e q. l .terms (z .year) k ∙ q) refl
 
 -- ---- a turn of the code's loop: z is the state at term j, from s on
 
@@ -94,17 +79,17 @@ module _ (rule : Year → ℕ → Step) (l : OnLists rule) (ws : List ℕ) (s : 
   abbrev t : Step
   t = overTo rule (live (yearIn ws s)) j
 
-  whole-at : Whole (yearIn ws s) t
-  whole-at = whole-over rule (s .terms) (yearIn ws s) (live (yearIn ws s)) (λ y k a b c m. l .whole y k a (omega arith)) (whole-rest (yearIn ws s) 0 sound) j (omega arith)
+  narrows-at : Narrows (yearIn ws s) t
+  narrows-at = narrows-over rule (s .terms) (yearIn ws s) (live (yearIn ws s)) (λ y k a b c m. l .narrows y k a (omega arith)) (narrows-rest (yearIn ws s) 0 sound) j (omega arith)
 
   year-same : p .year ≡ t .year
   year-same = ap (λ (x : Step). x .year) (over-joined rule (stepIn ws s) alive j)
 
   sound-same : Sound (p .year)
-  sound-same = rw year-same (whole-at .year .sound)
+  sound-same = rw year-same (narrows-at .year .sound)
 
   weights-same : (i : ℕ) → i < 64 → getD ws i 0 ≡ weight (p .year) i
-  weights-same i m = rw year-same (weights-stay ws s t whole-at i m)
+  weights-same i m = rw year-same (weights-stay ws s t narrows-at i m)
 
   step-at : stepIn ws z ≡ p
   step-at = step-held ws p sound-same weights-same z inv
@@ -125,11 +110,11 @@ module _ (rule : Year → ℕ → Step) (l : OnLists rule) (ws : List ℕ) (s : 
   sums-at = sums-read (yearIn ws z) (z .sums) (sums-held ws z held-at) j (omega (arith, sound))
 
   same : held (next rule (stepIn ws z) j) ≡ held (overTo rule (stepIn ws s) (j + 1))
-  same = ap (λ x. held (next rule x j)) step-at ∙ ap held (sym (over-more rule (stepIn ws s) j))
+  same = ap (λ x. held (next rule x j)) step-at ∙ ap held (sym (fold-more goes (then rule) (stepIn ws s) j))
 
   turn-at : z .rule ≡ 0 → (w : Judge) → rule (yearIn ws z) j ≡ judgeTerm w (yearIn ws z) j → TermTurn rule ws s z j w
   turn-at going w is = record {
-    ready = (omega (arith, ap (λ (y : Year). y .terms) year-at, whole-at .year .terms-same), sound-at, held-at, going);
+    ready = (omega (arith, ap (λ (y : Year). y .terms) year-at, narrows-at .year .terms-same), sound-at, held-at, going);
     rests = λ q.
         let still : rule (yearIn ws z) j ≡ live (yearIn ws z) = is ∙ ap (λ v. judgeTerm v (yearIn ws z) j) q ∙ rests-is (yearIn ws z) j in
         let quiet : stepIn ws z ≡ next rule (stepIn ws z) j = rw (going, still) (step-is refl (sym (or-false (z .altered))) refl) in
@@ -141,13 +126,10 @@ module _ (rule : Year → ℕ → Step) (l : OnLists rule) (ws : List ℕ) (s : 
 
 -- it never finds no plan
 alive-3 : (s : Step) → s .rule ≡ 0 → (n : ℕ) → overTo rule3 s n .rule ≡ 0
-unfolding overTo
-alive-3 s z zero = z
-alive-3 s z (suc n) =
-    let t = overTo rule3 s n in
-    choose-any (λ (x : Step). x .rule ≡ 0) (eqb (t .rule) 0) _ t
-    (ap (λ (x : Step). x .rule) (credits-is (t .year) n) ∙ onward Credits n (t .year) (t .year .courses) .goes-on)
-    (alive-3 s z n)
+alive-3 s z n =
+    fold-keeps goes (then rule3) s (λ t. t .rule ≡ 0) n
+    (λ t k h e q. ap (λ (x : Step). x .rule) (credits-is (t .year) k) ∙ onward Credits k (t .year) (t .year .courses) .goes-on)
+    z
 
 module _ (ws : List ℕ) (s : State) (sound : Sound (yearIn ws s)) (alive : s .rule ≡ 0) (j : ℕ) (h : j < s .terms) (z : State) (inv : z ≡ held (overTo rule3 (stepIn ws s) j))
     (top : List ℕ) (e : top ≡ tab 16 (topAt (yearIn ws s))) where
@@ -165,7 +147,7 @@ module _ (ws : List ℕ) (s : State) (sound : Sound (yearIn ws s)) (alive : s .r
 
   pub turn-3 : (w : Judge) → w ≡ judge3 (termAt (yearIn ws s) j) (getD (z .sums) j noSums) (getD top j 0) → TermTurn rule3 ws s z j w
   turn-3 w q =
-      let v = whole-at rule3 lists-3 ws s sound alive j h z inv in
+      let v = narrows-at rule3 lists-3 ws s sound alive j h z inv in
       let y = year-at rule3 lists-3 ws s sound alive j h z inv in
       let bound : (i : ℕ) → i < z .courses → openWeight (yearIn ws z) j i ≤ getD top j 0 = λ i m.
       let n : i < s .courses = omega (arith, v .year .courses-same, ap (λ (x : Year). x .courses) y) in
@@ -199,8 +181,4 @@ module _ (ws : List ℕ) (s : State) (sound : Sound (yearIn ws s)) (alive : s .r
 -- at the last term, or at one where no plan was found
 pub ends : (rule : Year → ℕ → Step) (s : Step) (j : ℕ) → j ≤ s .year .terms → ltb j (s .year .terms) && eqb (overTo rule s j .rule) 0 ≡ false
     → overTo rule s j ≡ overTerms rule s
-ends rule s j h e = go (ltb j (s .year .terms)) refl e
-  where
-    go : (b : Bool) → ltb j (s .year .terms) ≡ b → b && eqb (overTo rule s j .rule) 0 ≡ false → overTo rule s j ≡ overTerms rule s
-    go true q f = sym (over-dead rule s j f (s .year .terms) h)
-    go false q f = let is : j ≡ s .year .terms = omega (arith, ltb-false j (s .year .terms) q) in ap (overTo rule s) is
+ends rule s j h e = fold-finish goes (then rule) s j (s .year .terms) h e

@@ -5,9 +5,11 @@ use mathlib.Core.Path.{_≡_, refl, sym, ap, _∙_}
 use native.Mathlib.Omega.{arith}
 use lib.Dec.{eqb}
 use borrow.Author.Tests.{eq-eqb, ne-eqb}
-use Rattle.theory.specs.Sum.{pick, sum-change, sum-term-le}
-use Rattle.theory.specs.Tests.{and-true}
-use Rattle.theory.specs.Bits.{has, has-struck, has-power}
+use Rattle.theory.specs.Sum.{pick}
+use Rattle.theory.proofs.SumLaws.{sum-change, sum-term-le}
+use Rattle.theory.proofs.TestLaws.{and-true}
+use Rattle.theory.specs.Bits.{has}
+use Rattle.theory.proofs.BitLaws.{has-struck, has-power}
 use Rattle.year.specs.Year.{courseAt, weight, list, lists, isFixed, isOpen, withList, placed, struck}
 use Rattle.year.specs.Sums.{fixedWeight, openWeight, fixedCredits, openCredits, possibleCredits}
 use Rattle.year.specs.Sound.{Sound}

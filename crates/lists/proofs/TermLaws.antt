@@ -8,24 +8,28 @@ use native.Mathlib.Omega.{arith}
 use lib.Dec.{leb, ltb}
 use lib.ListN.{length, getD}
 use borrow.Author.Tests.{le-ltb, leb-true, ltb-false}
-use Rattle.theory.specs.Choice.{choose, choose-any}
-use Rattle.theory.specs.Sum.{pick, sum, sum-term-le}
-use Rattle.theory.specs.Tab.{tab, length-tab}
+use Rattle.theory.specs.Fold.{fold}
+use Rattle.theory.specs.Choice.{choose}
+use Rattle.theory.proofs.ChoiceLaws.{choose-any}
+use Rattle.theory.specs.Sum.{pick, sum}
+use Rattle.theory.proofs.SumLaws.{sum-term-le}
+use Rattle.theory.specs.Tab.{tab}
+use Rattle.theory.proofs.TabLaws.{length-tab}
 use Rattle.year.specs.Year.{termAt, courseAt, weight, isOpen, lowCredits, highCredits, lowCount, highCount}
 use Rattle.year.specs.Sums.{openWeight, fixedCredits, openCredits, possibleCredits, openOne, fixedCount, openCount, sumsTo, sumsAt}
-use Rattle.year.specs.Parts.{listsOf, bare, yearFrom}
+use Rattle.totals.specs.Parts.{listsOf, bare, yearFrom}
 use Rattle.year.specs.Sound.{Sound}
 use Rattle.year.specs.declared.Course.{Course}
 use Rattle.year.specs.declared.Sums.{Sums}
 use Rattle.year.specs.declared.Year.{Year}
-use Rattle.year.proofs.PartLaws.{course-in, year-is, weight-fits, list-fits}
-use Rattle.rules.specs.Step.{live, dead, judged, next, overTo, overCourses, held, yearIn, stepIn}
+use Rattle.totals.proofs.PartLaws.{course-in, year-is, weight-fits, list-fits}
+use Rattle.rules.specs.Step.{live, dead, judged, next, overTo, overCourses, Step, joined}
+use Rattle.frame.specs.State.{held, yearIn, stepIn}
 use Rattle.rules.specs.Lists.{verdict3, rule3Course, rule3, full, needed, verdict10, rule10Course, rule10}
-use Rattle.rules.specs.declared.Step.{Step}
-use Rattle.rules.specs.declared.State.{State}
+use Rattle.frame.specs.declared.State.{State}
 use Rattle.rules.specs.declared.Verdict.the-variants.{Stays}
-use Rattle.rules.proofs.Whole.{Whole, whole-rest, whole-over, joined}
-use Rattle.rules.proofs.Holding.{sums-in}
+use Rattle.rules.proofs.Narrows.{Narrows, narrows-rest, narrows-over}
+use Rattle.frame.proofs.StateLaws.{sums-in}
 use Rattle.lists.specs.Judge.{keptOf, judgeCourse, judge3, judge10, judgeTerm}
 use Rattle.lists.specs.declared.Judge.{Judge}
 use Rattle.lists.specs.declared.Judge.the-variants.{Rests, Credits, Counts, Fails}
@@ -41,7 +45,7 @@ pub step-is : {s t : Step} → s .year ≡ t .year → s .altered ≡ t .altered
 step-is p q r = λ i. record { year = p i; altered = q i; rule = r i }
 
 -- a step leaves the weights that are lent
-pub weights-stay : (ws : List ℕ) (s : State) (p : Step) → Whole (yearIn ws s) p → (i : ℕ) → i < 64 → getD ws i 0 ≡ weight (p .year) i
+pub weights-stay : (ws : List ℕ) (s : State) (p : Step) → Narrows (yearIn ws s) p → (i : ℕ) → i < 64 → getD ws i 0 ≡ weight (p .year) i
 weights-stay ws s p v i h = sym (v .year .weight-same i ∙ ap (λ (c : Course). c .weight .0) (course-in ws (s .list) i h))
 
 -- ---- the code of one term
@@ -69,9 +73,9 @@ module _ (ws : List ℕ) (s : State) (w : Judge) (j : ℕ) (h : j < s .terms) (s
     o : Onward (yearIn ws s) (s .courses) t
     o = onward w j (yearIn ws s) (s .courses)
 
-    whole : Whole (yearIn ws s) t
-    whole =
-        whole-over (judgeCourse w j) (s .courses) (yearIn ws s) (live (yearIn ws s)) (lawful w (s .terms) (s .courses) j h) (whole-rest (yearIn ws s) 0 sound) (s .courses) (le-refl (s .courses))
+    narrows : Narrows (yearIn ws s) t
+    narrows =
+        narrows-over (judgeCourse w j) (s .courses) (yearIn ws s) (live (yearIn ws s)) (lawful w (s .terms) (s .courses) j h) (narrows-rest (yearIn ws s) 0 sound) (s .courses) (le-refl (s .courses))
 
     list : k .list ≡ listsOf (t .year)
     list = ap (λ (z : Kept). z .list) q
@@ -92,11 +96,11 @@ module _ (ws : List ℕ) (s : State) (w : Judge) (j : ℕ) (h : j < s .terms) (s
     -- the year of the new lists
     year-after : yearFrom (s .terms) (s .courses) (s .term) ws (k .list) ≡ t .year
     year-after =
-        (λ i. yearFrom (sym (whole .year .terms-same) i) (sym (whole .year .courses-same) i) (sym (o .term-same) i) ws (list i))
-        ∙ year-is (t .year) ws (whole .year .sound) (weights-stay ws s t whole)
+        (λ i. yearFrom (sym (narrows .year .terms-same) i) (sym (narrows .year .courses-same) i) (sym (o .term-same) i) ws (list i))
+        ∙ year-is (t .year) ws (narrows .year .sound) (weights-stay ws s t narrows)
 
     sound-after : Sound (yearFrom (s .terms) (s .courses) (s .term) ws (k .list))
-    sound-after = subst Sound (sym year-after) (whole .year .sound)
+    sound-after = subst Sound (sym year-after) (narrows .year .sound)
 
     -- what sums over them ask
     pub sums-fit : length ws ≡ 64 → ((s .courses ≤ 64) × (s .courses ≤ length ws) × (s .courses ≤ length (k .list)) × (s .terms ≤ 16))
@@ -113,7 +117,7 @@ module _ (ws : List ℕ) (s : State) (w : Judge) (j : ℕ) (h : j < s .terms) (s
     pub alters : k .altered ≡ true → (u : List Sums) → u ≡ tab 16 (λ i. sumsTo (bare ws (k .list)) i (s .courses))
         → record { terms = s .terms; courses = s .courses; term = s .term; list = k .list; sums = u; altered = true; rule = 0 } ≡ after
     alters a u f =
-        state-is (sym (whole .year .terms-same)) (sym (whole .year .courses-same)) (sym (o .term-same)) list
+        state-is (sym (narrows .year .terms-same)) (sym (narrows .year .courses-same)) (sym (o .term-same)) list
         (f ∙ sums-in (s .terms) (s .courses) (s .term) ws (k .list) ∙ ap (λ y. tab 16 (sumsAt y)) year-after)
         (sym (or-true (s .altered)) ∙ ap (λ b. s .altered || b) (sym a ∙ mark)) (sym (o .goes-on))
         ∙ sym after-is
@@ -122,7 +126,7 @@ module _ (ws : List ℕ) (s : State) (w : Judge) (j : ℕ) (h : j < s .terms) (s
 
 -- where no course has a verdict nothing is done
 over-rests : (f : Year → ℕ → Step) (y : Year) (n : ℕ) → ((i : ℕ) → i < n → f y i ≡ live y) → overTo f (live y) n ≡ live y
-unfolding overTo
+unfolding fold
 over-rests f y zero h = refl
 over-rests f y (suc n) h = ap (λ s. next f s n) (over-rests f y n (λ i l. h i (omega arith))) ∙ rw (h n (omega arith))
 

@@ -9,17 +9,20 @@ use native.Mathlib.Omega.{arith}
 use lib.Dec.{eqb, ltb}
 use lib.ListN.{getD}
 use borrow.Author.Tests.{ltb-true, ltb-false, eq-eqb, ne-eqb}
-use Rattle.theory.specs.Sum.{pick, pick-le}
-use Rattle.theory.specs.Tests.{and-true, and-of}
-use Rattle.theory.specs.Bits.{has, has-le, has-some, has-struck, has-power}
-use Rattle.theory.specs.Tab.{tab, getD-tab, tab-cong}
+use Rattle.theory.specs.Sum.{pick}
+use Rattle.theory.proofs.SumLaws.{pick-le}
+use Rattle.theory.proofs.TestLaws.{and-true, and-of}
+use Rattle.theory.specs.Bits.{has}
+use Rattle.theory.proofs.BitLaws.{has-le, has-some, has-struck, has-power}
+use Rattle.theory.specs.Tab.{tab}
+use Rattle.theory.proofs.TabLaws.{getD-tab, tab-cong}
 use Rattle.year.specs.Year.{zeroCourse, courseAt, weight, list, lists, isFixed, isOpen}
 use Rattle.year.specs.Sums.{openWeight}
 use Rattle.year.specs.Sound.{Sound}
 use Rattle.year.specs.declared.Course.{Course}
 use Rattle.year.specs.declared.Year.{Year}
-use Rattle.rules.specs.declared.Step.{Step}
-use Rattle.rules.proofs.Whole.{Whole}
+use Rattle.rules.specs.Step.{Step}
+use Rattle.rules.proofs.Narrows.{Narrows}
 use Rattle.lists.specs.Tops.{topTo, topWith}
 
 pub larger-first : (b : Bool) (top w : ℕ) → b && ltb top w ≡ true → w ≡ max top (pick b w)
@@ -58,7 +61,7 @@ top-most y (suc n) j s h =
     omega (arith, top-most y n j s (omega arith), pick-le (isOpen (courseAt y n) j) (weight y n), s .course-sound n (omega arith) .weight-most)
 
 -- a course that is open in a later year was open before it
-module _ (y : Year) (t : Step) (w : Whole y t) (i j : ℕ) (h : i < y .courses) where
+module _ (y : Year) (t : Step) (w : Narrows y t) (i j : ℕ) (h : i < y .courses) where
   was-open : isOpen (courseAt (t .year) i) j ≡ true → isOpen (courseAt y i) j ≡ true
   was-open e =
       let l = list (t .year) i in

@@ -5,14 +5,13 @@ use lib.Dec.{eqb, leb, ltb}
 use Rattle.theory.specs.Choice.{choose}
 use Rattle.year.specs.Year.{termAt, courseAt}
 use Rattle.year.specs.Sums.{fixedCredits, possibleCredits}
-use Rattle.year.specs.Parts.{listsOf}
+use Rattle.totals.specs.Parts.{listsOf}
 use Rattle.year.specs.declared.Course.{Course}
 use Rattle.year.specs.declared.Sums.{Sums}
 use Rattle.year.specs.declared.Term.{Term}
 use Rattle.year.specs.declared.Year.{Year}
-use Rattle.rules.specs.Step.{live, dead, judged, overCourses}
+use Rattle.rules.specs.Step.{live, dead, judged, overCourses, Step}
 use Rattle.rules.specs.Lists.{verdict3, verdict10}
-use Rattle.rules.specs.declared.Step.{Step}
 use Rattle.rules.specs.declared.Verdict.{Verdict}
 use Rattle.rules.specs.declared.Verdict.the-variants.{Stays}
 use Rattle.lists.specs.declared.Judge.{Judge}
@@ -50,7 +49,7 @@ judge10 t u =
     (Counts (eqb (u .placed .0) (t .most .0)) (eqb (u .placed .0 + u .free .0) (t .least .0)))
     Rests)
 
--- the whole term, as it is judged
+-- the narrows term, as it is judged
 abbrev pub judgeTerm : Judge → Year → ℕ → Step
 judgeTerm Fails y j = dead 10 y
 judgeTerm Rests y j = overCourses (judgeCourse Rests j) (live y)

@@ -2,7 +2,7 @@
 use crate::Judge;
 use crate::Kept;
 use crate::verdicts;
-use rules::State;
+use frame::State;
 use rules::Verdict;
 use totals::parts;
 use year::doors;
@@ -10,7 +10,8 @@ ghost use mathlib.Core.Path.{_≡_};
 ghost use Prim.Native.Nat.{_<_};
 ghost use lib.ListN.{length};
 ghost use Rattle.year.specs.Sound.{Sound};
-ghost use Rattle.rules.specs.Step.{live, overCourses, held, yearIn, stepIn};
+ghost use Rattle.rules.specs.Step.{live, overCourses};
+ghost use Rattle.frame.specs.State.{held, yearIn, stepIn};
 ghost use Rattle.lists.specs.Judge.{keptOf, judgeCourse};
 
 // The courses of term j, one after the other.

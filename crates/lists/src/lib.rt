@@ -4,11 +4,12 @@ mod terms;
 mod tops;
 mod verdicts;
 
-use rules::State;
+use frame::State;
 ghost use mathlib.Core.Path.{_≡_};
 ghost use lib.ListN.{length};
 ghost use Rattle.year.specs.Sound.{Sound};
-ghost use Rattle.rules.specs.Step.{overTerms, held, yearIn, stepIn};
+ghost use Rattle.rules.specs.Step.{overTerms};
+ghost use Rattle.frame.specs.State.{held, yearIn, stepIn};
 ghost use Rattle.rules.specs.Lists.{rule3, rule10};
 
 // The lists of a year on its way through the courses of a term, with the credits fixed in that term (p) and those possible there (P).

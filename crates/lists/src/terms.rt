@@ -1,14 +1,15 @@
 // A term of rules 3 and 10: which judge it is, from small values alone, and its courses only where that has something to say.
 use crate::Judge;
 use crate::courses;
-use rules::State;
+use frame::State;
 use year::Sums;
 use year::Term;
 ghost use mathlib.Core.Path.{_≡_};
 ghost use Prim.Native.Nat.{_+_, _<_};
 ghost use lib.ListN.{length};
 ghost use Rattle.year.specs.Sound.{Sound};
-ghost use Rattle.rules.specs.Step.{next, held, yearIn, stepIn};
+ghost use Rattle.rules.specs.Step.{next};
+ghost use Rattle.frame.specs.State.{held, yearIn, stepIn};
 ghost use Rattle.lists.specs.Judge.{judge3, judge10, judgeTerm};
 
 // Rule 3: no open course weighs more than `top`, so there is nothing to do with room for it and enough without it.

@@ -8,7 +8,7 @@ ghost use lib.ListN.{length};
 ghost use Rattle.theory.specs.Sum.{pick};
 ghost use Rattle.theory.specs.Tab.{tab};
 ghost use Rattle.year.specs.Year.{isOpen};
-ghost use Rattle.year.specs.Parts.{coursesFrom};
+ghost use Rattle.totals.specs.Parts.{coursesFrom};
 ghost use Rattle.lists.specs.Tops.{topWith, topTo};
 
 // The weight at hand, or the course's if that is open in term k and heavier.

@@ -6,7 +6,8 @@ use native.Mathlib.Omega.{arith}
 use lib.ListN.{replicate, length-replicate, getD-replicate, take}
 use borrow.Author.Tests.{lt-ltb, le-ltb}
 use Rattle.theory.specs.Sum.{pick}
-use Rattle.theory.specs.Tab.{tab, tab-cong, fill, fill-front}
+use Rattle.theory.specs.Tab.{tab}
+use Rattle.theory.proofs.TabLaws.{tab-cong, fill, fill-front}
 use Rattle.packing.specs.Sizes.{firstOf}
 
 pub first-is : (n k : ℕ) (f : ℕ → ℕ) → k < n → f k ≡ firstOf n f k

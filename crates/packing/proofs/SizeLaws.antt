@@ -8,12 +8,16 @@ use native.Mathlib.Omega.{arith}
 use lib.Dec.{ltb}
 use lib.ListN.{length, getD}
 use borrow.Author.Tests.{lt-ltb, le-ltb, ltb-false}
-use Rattle.theory.specs.Choice.{choose-case}
-use Rattle.theory.specs.Sum.{pick, sum, sum-cong, sum-mono}
-use Rattle.theory.specs.Tab.{tab, length-tab, getD-tab}
-use Rattle.theory.specs.Tests.{any, any-more}
-use Rattle.theory.specs.Packing.{share, share-le, share-big, ceiling}
-use Rattle.year.specs.Imbalance.{largest}
+use Rattle.theory.proofs.ChoiceLaws.{choose-case}
+use Rattle.theory.specs.Sum.{pick, sum}
+use Rattle.theory.proofs.SumLaws.{sum-cong, sum-mono}
+use Rattle.theory.specs.Tab.{tab}
+use Rattle.theory.proofs.TabLaws.{length-tab, getD-tab}
+use Rattle.theory.specs.Tests.{any}
+use Rattle.theory.proofs.TestLaws.{any-more}
+use Rattle.theory.specs.Packing.{share}
+use Rattle.theory.proofs.PackingLaws.{share-le, share-big, ceiling}
+use Rattle.theory.specs.Largest.{largest}
 use Rattle.packing.specs.Sizes.{shareAt, shareSum, capped, cappedAt, capSum, over}
 
 -- ---- the sums

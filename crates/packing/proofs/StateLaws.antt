@@ -8,23 +8,25 @@ use lib.Dec.{eqb, ltb}
 use lib.ListN.{getD}
 use borrow.Author.Tests.{ne-eqb}
 use Rattle.theory.specs.Choice.{choose}
-use Rattle.theory.specs.Sum.{pick, sum, sum-cong}
+use Rattle.theory.specs.Sum.{pick, sum}
+use Rattle.theory.proofs.SumLaws.{sum-cong}
 use Rattle.theory.specs.Packing.{share}
 use Rattle.theory.specs.Tab.{tab}
 use Rattle.theory.specs.Tests.{any}
 use Rattle.year.specs.Sums.{isPlaced, fixedCredits}
-use Rattle.year.specs.Parts.{courseFrom, highIn, fixedIn}
+use Rattle.totals.specs.Parts.{courseFrom, highIn, fixedIn}
 use Rattle.year.specs.Sound.{Sound}
 use Rattle.year.specs.declared.Course.{Course}
 use Rattle.year.specs.declared.Year.{Year}
-use Rattle.year.proofs.PartLaws.{course-in}
+use Rattle.totals.proofs.PartLaws.{course-in}
 use Rattle.year.proofs.SumLaws.{fixed-read}
-use Rattle.rules.specs.Step.{step, live, dead, held, yearIn, stepIn}
+use Rattle.rules.specs.Step.{step, live, dead}
+use Rattle.frame.specs.State.{held, yearIn, stepIn}
 use Rattle.rules.specs.Packing.{burst, room, courseShare, termShare, shares, bursts, rule11}
 use Rattle.rules.specs.Round.{once}
-use Rattle.rules.specs.declared.State.{State}
-use Rattle.rules.proofs.Holding.{sums-held}
-use Rattle.rules.proofs.Whole.{next-dead}
+use Rattle.frame.specs.declared.State.{State}
+use Rattle.frame.proofs.StateLaws.{sums-held}
+use Rattle.rules.proofs.Narrows.{next-dead}
 use Rattle.packing.specs.Bins.{burstIn, roomIn}
 use Rattle.packing.specs.Sizes.{sizeIn, usedIn, shareSum, over, unpackable}
 use Rattle.packing.proofs.SizeLaws.{share-pick, share-tab, test-is, any-same, largest-most}

@@ -9,7 +9,7 @@ use Rattle.theory.specs.Sum.{pick, sum}
 use Rattle.theory.specs.Tests.{any}
 use Rattle.theory.specs.Packing.{share}
 use Rattle.year.specs.Sums.{isPlaced}
-use Rattle.year.specs.Parts.{courseFrom, highIn, fixedIn}
+use Rattle.totals.specs.Parts.{courseFrom, highIn, fixedIn}
 use Rattle.year.specs.declared.Course.{Course}
 use Rattle.year.specs.declared.Sums.{Sums}
 use Rattle.year.specs.declared.Term.{Term}

@@ -2,11 +2,11 @@
 mod bins;
 mod sizes;
 
-use rules::State;
+use frame::State;
 ghost use mathlib.Core.Path.{_≡_};
 ghost use lib.ListN.{length};
 ghost use Rattle.year.specs.Sound.{Sound};
-ghost use Rattle.rules.specs.Step.{held, yearIn, stepIn};
+ghost use Rattle.frame.specs.State.{held, yearIn, stepIn};
 ghost use Rattle.rules.specs.Packing.{rule11};
 ghost use Rattle.rules.specs.Round.{once};
 ghost use Rattle.packing.specs.Sizes.{unpackable};

@@ -6,7 +6,7 @@ use native.Mathlib.Omega.{arith}
 use lib.Dec.{eqb, ltb}
 use lib.ListN.{length, drop}
 use borrow.Author.Tests.{lt-ltb, le-ltb}
-use Rattle.theory.specs.Choice.{choose-any}
+use Rattle.theory.proofs.ChoiceLaws.{choose-any}
 use Rattle.year.specs.Sound.{Sound}
 use Rattle.year.specs.Numbers.{narrowingNumber}
 use Rattle.year.specs.declared.Year.{Year}

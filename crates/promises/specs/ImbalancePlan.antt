@@ -5,10 +5,12 @@ use mathlib.Core.Logic.{_↔_}
 use mathlib.Core.Path.{_≡_, refl, fun-ext}
 use lib.Dec.{leb}
 use borrow.Author.Tests.{leb-true, le-leb}
-use Rattle.theory.specs.Tests.{all, all-at, all-of, and-true, and-of}
+use Rattle.theory.specs.Tests.{all}
+use Rattle.theory.proofs.TestLaws.{all-at, all-of, and-true, and-of}
 use Rattle.year.specs.Year.{termAt}
 use Rattle.year.specs.Sums.{fixedCredits, fixedCount, allPlaced}
-use Rattle.year.specs.Imbalance.{largest, smallest, fits, fitsAt, onePlan, spreadOf, imbalanceOf}
+use Rattle.theory.specs.Largest.{largest, smallest}
+use Rattle.year.specs.Imbalance.{fits, fitsAt, onePlan, spreadOf, imbalanceOf}
 use Rattle.year.specs.Plans.{Placing, creditsIn, Plan}
 use Rattle.year.specs.Sound.{Sound}
 use Rattle.year.specs.declared.Term.{Term}

@@ -7,9 +7,11 @@ use native.Mathlib.Omega.{arith}
 use native.Mathlib.Decide.{decLt}
 use lib.Dec.{eqb, leb, ltb}
 use borrow.Author.Tests.{eqb-true, eqb-false, leb-false, ltb-false, eq-eqb, lt-ltb, le-ltb}
-use Rattle.theory.specs.Choice.{choose, choose-case}
-use Rattle.theory.specs.Tests.{or-false}
-use Rattle.theory.specs.Bits.{has, has-power}
+use Rattle.theory.specs.Choice.{choose}
+use Rattle.theory.proofs.ChoiceLaws.{choose-case}
+use Rattle.theory.proofs.TestLaws.{or-false}
+use Rattle.theory.specs.Bits.{has}
+use Rattle.theory.proofs.BitLaws.{has-power}
 use Rattle.year.specs.Year.{termAt, courseAt, list, lists, lowCredits, highCredits, lowCount, highCount, withTerm, placed, struck}
 use Rattle.year.specs.Tight.{creditsWithin, countsWithin}
 use Rattle.year.specs.Narrow.{answered, checked, noSuch, placing, barring, placeOf, barOf, tightened, raiseLowCreditsOf, lowerHighCreditsOf, raiseLowCountOf, lowerHighCountOf}

@@ -1,14 +1,16 @@
 -- A year in which every course has one term: where a round finds no fault and leaves it, its bounds are what stands in each term.
 use Prim.Native.Nat.{ℕ, _+_, _^_, _≤_, _<_}
-use mathlib.Core.Bool.{Bool, true, false, _||_}
+use mathlib.Core.Bool.{true, false, _||_}
 use mathlib.Core.Path.{_≡_, refl, sym, ap, _∙_}
 use native.Mathlib.Omega.{arith}
 use native.Mathlib.Decide.{ℕ-discrete}
 use lib.Dec.{eqb, ltb}
 use borrow.Author.Tests.{eqb-true, eq-eqb, ne-eqb, ltb-false}
-use Rattle.theory.specs.Sum.{pick, sum, sum-cong}
-use Rattle.theory.specs.Tests.{or-false}
-use Rattle.theory.specs.Bits.{has, has-power, has-below, has-only, power-eqb}
+use Rattle.theory.specs.Sum.{pick, sum}
+use Rattle.theory.proofs.SumLaws.{sum-cong}
+use Rattle.theory.proofs.TestLaws.{or-false}
+use Rattle.theory.specs.Bits.{has}
+use Rattle.theory.proofs.BitLaws.{has-power, has-below, has-only, power-eqb}
 use Rattle.year.specs.Year.{termAt, courseAt, weight, list, lists, isFixed, lowCredits, highCredits, lowCount, highCount}
 use Rattle.year.specs.Sums.{fixedCredits, openCredits, possibleCredits, fixedCount, openCount}
 use Rattle.year.specs.Tight.{creditsWithin, countsWithin}
@@ -17,8 +19,8 @@ use Rattle.year.specs.Sound.{Sound}
 use Rattle.year.specs.declared.Year.{Year}
 use Rattle.rules.specs.Bounds.{rule1, rule4}
 use Rattle.rules.specs.Round.{bounded, passes, round}
-use Rattle.rules.proofs.Whole.{Narrower}
-use Rattle.rules.proofs.Steps.{whole-1, whole-4}
+use Rattle.rules.proofs.Narrows.{Narrower}
+use Rattle.rules.proofs.Steps.{narrows-1, narrows-4}
 use Rattle.rules.proofs.Passes.{Each}
 use Rattle.rules.proofs.Rest.{Leaves, round-rest, terms-rest, outcome-rest}
 use Rattle.rules.proofs.DoorPlans.{Holds, plan-of}
@@ -91,14 +93,14 @@ module _ (y : Year) (p : Placing) (sound : Sound y) (placed : PlacedBy y p) (fau
   unfolding rule1 creditsWithin
   credits-rest k l =
       let w = creditsWithin (termAt y k) (fixedCredits y k) (possibleCredits y k) in
-      let e = outcome-rest y k 1 false w (λ z. omega arith) (terms-rest (bounded rule1) y sound whole-1 (leaves .0) k l) in
+      let e = outcome-rest y k 1 false w (λ z. omega arith) (terms-rest (bounded rule1) y sound narrows-1 (leaves .0) k l) in
       not-tighter (lowCredits y k) (fixedCredits y k) (possibleCredits y k) (highCredits y k) e
 
   counts-rest : (k : ℕ) → k < y .terms → (fixedCount y k ≤ lowCount y k) × (highCount y k ≤ fixedCount y k + openCount y k)
   unfolding rule4 countsWithin
   counts-rest k l =
       let w = countsWithin (termAt y k) (fixedCount y k) (fixedCount y k + openCount y k) in
-      let e = outcome-rest y k 4 false w (λ z. omega arith) (terms-rest (bounded rule4) y sound whole-4 (leaves .1 .1 .1 .0) k l) in
+      let e = outcome-rest y k 4 false w (λ z. omega arith) (terms-rest (bounded rule4) y sound narrows-4 (leaves .1 .1 .1 .0) k l) in
       not-tighter (lowCount y k) (fixedCount y k) (fixedCount y k + openCount y k) (highCount y k) e
 
   -- so its bounds are what stands in each term: the placing is a plan

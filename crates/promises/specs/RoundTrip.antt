@@ -7,7 +7,7 @@ use native.Mathlib.Omega.{arith}
 use lib.Dec.{leb}
 use lib.ListN.{length, take, drop}
 use lib.Seq.{take-append-seam, drop-append-seam}
-use Rattle.theory.specs.Choice.{choose-any}
+use Rattle.theory.proofs.ChoiceLaws.{choose-any}
 use Rattle.year.specs.Year.{emptyYear}
 use Rattle.year.specs.Sound.{Sound, isSound}
 use Rattle.year.specs.declared.Year.{Year}

@@ -10,17 +10,16 @@ use Rattle.year.specs.Sound.{Sound}
 use Rattle.year.specs.declared.Year.{Year}
 use Rattle.year.proofs.SoundLaws.{sound-to}
 use Rattle.rules.specs.Round.{round}
-use Rattle.rules.proofs.Measure.{measure, measure-most}
-use Rattle.rules.proofs.Whole.{Narrower, narrower-self, narrower-then}
-use Rattle.rules.proofs.Passes.{whole-round, round-quiet}
+use Rattle.rules.proofs.Leeway.{leeway, leeway-most}
+use Rattle.rules.proofs.Narrows.{Narrower, narrower-self, narrower-then}
+use Rattle.rules.proofs.Passes.{narrows-round, round-quiet}
 use Rattle.filter.specs.Filter.{filtered, atRest, roundsFrom, filterOf}
 use Rattle.filter.specs.Numbers.{filterNumber, filterRounds}
-use Rattle.filter.specs.declared.Answer.the-variants.{NoPlan}
+use Rattle.filter.specs.declared.Answer.the-variants.{NoPlan, Settled, Open}
 use Rattle.filter.specs.declared.Filtered.{Filtered}
 use Rattle.filter.proofs.RoundLaws.{left, dies, rests, goes-on, round-falls}
-use Rattle.theory.specs.Choice.{choose-case}
+use Rattle.theory.proofs.ChoiceLaws.{choose-case}
 use Rattle.year.specs.Sums.{allPlaced}
-use Rattle.filter.specs.declared.Answer.the-variants.{Settled, Open}
 
 -- z is what n rounds make of y, each of which found no fault and left another year than it was given
 pub data Altering (y : Year) : ℕ → Year → Type 0 where
@@ -58,17 +57,17 @@ pub altering-narrower : {y z : Year} {n : ℕ} → Sound y → Altering y n z �
 altering-narrower {y} s none = narrower-self y s
 altering-narrower {y} s (more {n} {z} a r d) =
     let w = altering-narrower s a in
-    narrower-then y z (round z .year) w (whole-round z (w .sound) .year)
+    narrower-then y z (round z .year) w (narrows-round z (w .sound) .year)
 
 -- it gets narrower by one a round at least
-altering-falls : {y z : Year} {n : ℕ} → Sound y → Altering y n z → measure z + n ≤ measure y
+altering-falls : {y z : Year} {n : ℕ} → Sound y → Altering y n z → leeway z + n ≤ leeway y
 altering-falls s none = omega arith
 altering-falls s (more {n} {z} a r d) =
     let t = altering-narrower s a .sound in
     omega (arith, altering-falls s a, round-falls z t (marked z t d))
 
 pub few-rounds : {y z : Year} {n : ℕ} → Sound y → Altering y n z → suc n ≤ 1025985
-few-rounds {y} {z} s a = omega (arith, altering-falls s a, measure-most y s)
+few-rounds {y} {z} s a = omega (arith, altering-falls s a, leeway-most y s)
 
 -- ---- filtering is such a chain
 
@@ -88,16 +87,16 @@ turn y z n t a few rest = go (eqb (round z .rule) 0) (round z .altered) refl ref
         rw (rests y z n few e g, plus, q) (record { rounds = n; last = z; altering = a; ends = at-rest (eqb-true (round z .rule) 0 e) q })
     go true true e g = rw (goes-on y z n few e g, plus) (rest (eqb-true (round z .rule) 0 e) g)
 
--- the rest of a filtering; d is at least the measure, so it outlasts the altering rounds
-from : (y z : Year) (n d : ℕ) → Sound z → Altering y n z → measure z ≤ d → d + n ≤ 1025984 → Filtering y (roundsFrom (left n) y z n)
+-- the rest of a filtering; d is at least the leeway, so it outlasts the altering rounds
+from : (y z : Year) (n d : ℕ) → Sound z → Altering y n z → leeway z ≤ d → d + n ≤ 1025984 → Filtering y (roundsFrom (left n) y z n)
 from y z n zero t a m f = turn y z n t a (omega arith) (λ e g. absurd (omega (arith, round-falls z t g)))
 from y z n (suc d) t a m f =
     turn y z n t a (omega arith)
-    (λ e g. from y (round z .year) (suc n) d (whole-round z t .year .sound) (more a e (another z t g)) (omega (arith, round-falls z t g)) (omega arith))
+    (λ e g. from y (round z .year) (suc n) d (narrows-round z t .year .sound) (more a e (another z t g)) (omega (arith, round-falls z t g)) (omega arith))
 
 pub filtering : (y : Year) → Sound y → Filtering y (filterOf y)
 unfolding filterOf
-filtering y s = rw (sound-to y s) (from y y 0 1025984 s none (measure-most y s) (omega arith))
+filtering y s = rw (sound-to y s) (from y y 0 1025984 s none (leeway-most y s) (omega arith))
 
 -- ---- and no other answer has such a chain
 

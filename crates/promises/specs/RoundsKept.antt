@@ -4,13 +4,12 @@ use mathlib.Core.Bool.{Bool, true, false}
 use mathlib.Core.Logic.{_↔_}
 use mathlib.Core.Path.{_≡_, refl}
 use native.Mathlib.Omega.{arith}
-use Rattle.theory.specs.Choice.{choose-case}
+use Rattle.theory.proofs.ChoiceLaws.{choose-case}
 use Rattle.year.specs.Plans.{Placing, Plan}
 use Rattle.year.specs.Sound.{isSound, Sound}
 use Rattle.year.specs.Sums.{allPlaced}
 use Rattle.year.specs.declared.Year.{Year}
 use Rattle.year.proofs.SoundLaws.{sound-of}
-use Rattle.rules.specs.Round.{round}
 use Rattle.rules.proofs.Passes.{round-kept}
 use Rattle.filter.specs.Filter.{filtered, atRest, filterOf}
 use Rattle.filter.specs.Numbers.{filterNumber}

@@ -6,10 +6,12 @@ use mathlib.Core.Logic.{_↔_}
 use mathlib.Core.Path.{_≡_, refl, sym, ap, _∙_}
 use native.Mathlib.Omega.{arith}
 use borrow.Author.Tests.{eqb-true, eq-eqb}
-use Rattle.theory.specs.Choice.{choose-case}
-use Rattle.theory.specs.Bits.{has, has-power}
-use Rattle.theory.specs.Sum.{pick, sum, sum-single}
-use Rattle.theory.specs.Tests.{any-true, any-of, all-at, all-of}
+use Rattle.theory.proofs.ChoiceLaws.{choose-case}
+use Rattle.theory.specs.Bits.{has}
+use Rattle.theory.proofs.BitLaws.{has-power}
+use Rattle.theory.specs.Sum.{pick, sum}
+use Rattle.theory.proofs.SumLaws.{sum-single}
+use Rattle.theory.proofs.TestLaws.{any-true, any-of, all-at, all-of}
 use Rattle.year.specs.Year.{courseAt, list, isFixed}
 use Rattle.year.specs.Sums.{isPlaced, placedAt, allPlaced}
 use Rattle.year.specs.Plans.{Placing, Plan}

@@ -5,14 +5,15 @@ use mathlib.Core.Bool.{Bool, true, false, _||_}
 use mathlib.Core.List.{List, [], _∷_}
 use mathlib.Core.Path.{_≡_, refl, sym, ap, _∙_, fun-ext}
 use native.Mathlib.Omega.{arith}
-use native.Mathlib.Nat.{le-refl, le-trans, le-of-eq}
+use native.Mathlib.Nat.{le-trans, le-of-eq}
 use native.Mathlib.Decide.{ℕ-discrete}
 use lib.Dec.{eqb, leb}
 use borrow.Author.Tests.{eqb-true, eqb-false, leb-true, leb-false}
-use Rattle.theory.specs.Choice.{choose-case}
+use Rattle.theory.specs.Fold.{fold}
+use Rattle.theory.proofs.ChoiceLaws.{choose-case}
 use Rattle.theory.specs.Tab.{tab}
 use Rattle.theory.specs.Walk.{Table, Reached, walk}
-use Rattle.year.specs.Year.{termAt, weight, lowCredits, highCredits, lowCount, highCount, withTerm}
+use Rattle.year.specs.Year.{termAt, weight, highCredits, lowCount, highCount, withTerm}
 use Rattle.year.specs.Sums.{fixedCredits, fixedCount, openCount}
 use Rattle.year.specs.Tight.{creditsWithin, countsWithin}
 use Rattle.year.specs.Sound.{Sound}
@@ -20,16 +21,16 @@ use Rattle.year.specs.declared.Term.{Term}
 use Rattle.year.specs.declared.Tight.{Tight}
 use Rattle.year.specs.declared.Year.{Year}
 use Rattle.year.proofs.DoorLaws.{term-same, term-other}
-use Rattle.rules.specs.Step.{live, outcome, outcomeOf, put, overTo}
+use Rattle.rules.specs.Step.{goes, then, live, outcome, outcomeOf, put, overTo, Step}
 use Rattle.rules.specs.Bounds.{rule4, rule5}
 use Rattle.rules.specs.Spares.{spare, spares, table, stops, openOf, walkOf, up, rule6, rule7, rule8, rule9}
 use Rattle.rules.specs.Round.{bounded, inRow, rulesOf}
-use Rattle.rules.specs.declared.Step.{Step}
 use Rattle.rules.specs.declared.Outcome.{Outcome}
 use Rattle.rules.specs.declared.Until.{Until}
 use Rattle.rules.specs.declared.Until.the-variants as until
-use Rattle.rules.proofs.Whole.{Narrower, narrower-self, narrower-then, Whole, over-keeps, over-dead}
-use Rattle.rules.proofs.Steps.{whole-4, whole-5, whole-6, whole-7, whole-8, whole-9}
+use Rattle.theory.proofs.FoldLaws.{fold-keeps}
+use Rattle.rules.proofs.Narrows.{Narrower, narrower-self, narrower-then, Narrows}
+use Rattle.rules.proofs.Steps.{narrows-4, narrows-5, narrows-6, narrows-7, narrows-8, narrows-9}
 use Rattle.rules.proofs.KeptOver.{AtTerms}
 use Rattle.rules.proofs.Passes.{lawful-part, row-narrower}
 
@@ -39,14 +40,14 @@ Spared z = (k : ℕ) → k < z .terms → (fixedCount z k ≤ lowCount z k) × (
 
 -- ---- a rule on bounds, over the terms: what it makes known of each term, and what it keeps
 
-module _ (y : Year) (A : Year → ℕ → Type 0) (f : Year → ℕ → Outcome) (law : AtTerms Whole (bounded f))
+module _ (y : Year) (A : Year → ℕ → Type 0) (f : Year → ℕ → Outcome) (law : AtTerms Narrows (bounded f))
     (stays : (z : Year) (j k : ℕ) → Sound z → j < z .terms → A z k → A (bounded f z j .year) k) where
   -- kept
   known-over : (s : Step) (m : ℕ) → m ≤ y .terms → Narrower y (s .year) × ((k : ℕ) → k < y .terms → A (s .year) k)
       → Narrower y (overTo (bounded f) s m .year) × ((k : ℕ) → k < y .terms → A (overTo (bounded f) s m .year) k)
   known-over s m h =
-      over-keeps (λ z. Narrower y z × ((k : ℕ) → k < y .terms → A z k)) (bounded f) s m
-      (λ z j l a. (
+      fold-keeps goes (then (bounded f)) s (λ t. Narrower y (t .year) × ((k : ℕ) → k < y .terms → A (t .year) k)) m
+      (λ t j l e a. let z = t .year in (
         narrower-then y z (bounded f z j .year) (a .0) (law z j (a .0 .sound) (omega (arith, a .0 .terms-same)) .year),
         λ k q. stays z j k (a .0 .sound) (omega (arith, a .0 .terms-same)) (a .1 k q),
       ))
@@ -68,7 +69,7 @@ module _ (y : Year) (A : Year → ℕ → Type 0) (f : Year → ℕ → Outcome)
         go k q (no d) new old = old (omega arith)
 
     made-over : (s : Step) → Narrower y (s .year) → (m : ℕ) → m ≤ y .terms → Made m (overTo (bounded f) s m)
-    unfolding overTo
+    unfolding fold
     made-over s a zero h = (a, λ e k l. absurd (omega arith))
     made-over s a (suc m) h =
         let t : Step = overTo (bounded f) s m in
@@ -89,7 +90,7 @@ outcome-makes C z k r fails w d c =
 abbrev Room : Year → ℕ → Type 0
 Room z k = (fixedCount z k ≤ lowCount z k) × (highCount z k ≤ fixedCount z k + openCount z k)
 
-room-stays : (f : Year → ℕ → Outcome) → AtTerms Whole (bounded f) → (z : Year) (j k : ℕ) → Sound z → j < z .terms → Room z k → Room (bounded f z j .year) k
+room-stays : (f : Year → ℕ → Outcome) → AtTerms Narrows (bounded f) → (z : Year) (j k : ℕ) → Sound z → j < z .terms → Room z k → Room (bounded f z j .year) k
 unfolding fixedCount openCount
 room-stays f law z j k s l r =
     let w = law z j s l .year in
@@ -128,7 +129,7 @@ module _ (y : Year) (sound : Sound y) where
     spared-of : (z : Year) → Roomy z → Spared z
     spared-of z a k l = let r = a .1 k (omega (arith, a .0 .terms-same)) in (r .0, omega (arith, r, a .0 .sound .term-sound k l))
 
-    over : (f : Year → ℕ → Outcome) → AtTerms Whole (bounded f) → (s : Step) → Roomy (s .year) → (m : ℕ) → m ≤ y .terms → Roomy (overTo (bounded f) s m .year)
+    over : (f : Year → ℕ → Outcome) → AtTerms Narrows (bounded f) → (s : Step) → Roomy (s .year) → (m : ℕ) → m ≤ y .terms → Roomy (overTo (bounded f) s m .year)
     over f law s a m h = known-over y Room f law (room-stays f law) s m h a
 
     all : (a : ℕ) → after a .year .terms ≤ y .terms
@@ -136,33 +137,33 @@ module _ (y : Year) (sound : Sound y) where
 
     roomy-4 : Roomy (after 4 .year)
     roomy-4 =
-        let b = made-over y Room rule4 whole-4 (room-stays rule4 whole-4) room-made (after 3) (narrower-after 3) (after 3 .year .terms) (all 3) in
+        let b = made-over y Room rule4 narrows-4 (room-stays rule4 narrows-4) room-made (after 3) (narrower-after 3) (after 3 .year .terms) (all 3) in
         (b .0, λ k l. b .1 alive k (omega (arith, narrower-after 3 .terms-same)))
 
     roomy-5 : Roomy (after 5 .year)
-    roomy-5 = over rule5 whole-5 (after 4) roomy-4 (after 4 .year .terms) (all 4)
+    roomy-5 = over rule5 narrows-5 (after 4) roomy-4 (after 4 .year .terms) (all 4)
 
     roomy-6 : Roomy (after 6 .year)
-    roomy-6 = over rule6 whole-6 (after 5) roomy-5 (after 5 .year .terms) (all 5)
+    roomy-6 = over rule6 narrows-6 (after 5) roomy-5 (after 5 .year .terms) (all 5)
 
     roomy-7 : Roomy (after 7 .year)
-    roomy-7 = over rule7 whole-7 (after 6) roomy-6 (after 6 .year .terms) (all 6)
+    roomy-7 = over rule7 narrows-7 (after 6) roomy-6 (after 6 .year .terms) (all 6)
 
     roomy-8 : Roomy (after 8 .year)
-    roomy-8 = over rule8 whole-8 (after 7) roomy-7 (after 7 .year .terms) (all 7)
+    roomy-8 = over rule8 narrows-8 (after 7) roomy-7 (after 7 .year .terms) (all 7)
 
     -- the years that rules 6 to 9 see at each of their terms
     pub spared-6 : (m : ℕ) → m ≤ y .terms → Spared (overTo (bounded rule6) (after 5) m .year)
-    spared-6 m h = spared-of _ (over rule6 whole-6 (after 5) roomy-5 m h)
+    spared-6 m h = spared-of _ (over rule6 narrows-6 (after 5) roomy-5 m h)
 
     pub spared-7 : (m : ℕ) → m ≤ y .terms → Spared (overTo (bounded rule7) (after 6) m .year)
-    spared-7 m h = spared-of _ (over rule7 whole-7 (after 6) roomy-6 m h)
+    spared-7 m h = spared-of _ (over rule7 narrows-7 (after 6) roomy-6 m h)
 
     pub spared-8 : (m : ℕ) → m ≤ y .terms → Spared (overTo (bounded rule8) (after 7) m .year)
-    spared-8 m h = spared-of _ (over rule8 whole-8 (after 7) roomy-7 m h)
+    spared-8 m h = spared-of _ (over rule8 narrows-8 (after 7) roomy-7 m h)
 
     pub spared-9 : (m : ℕ) → m ≤ y .terms → Spared (overTo (bounded rule9) (after 8) m .year)
-    spared-9 m h = spared-of _ (over rule9 whole-9 (after 8) roomy-8 m h)
+    spared-9 m h = spared-of _ (over rule9 narrows-9 (after 8) roomy-8 m h)
 
 -- ---- rule 8 reaches the low count
 
@@ -223,7 +224,7 @@ low-8 : KeepsLow rule8
 unfolding rule8 creditsWithin
 low-8 z j = outcome-least 8 _ (termAt z j) (creditsWithin (termAt z j) (walkOf z j (until.Count (lowCount z j)) (up z) .credits) (highCredits z j)) refl
 
-within-stays : (f : Year → ℕ → Outcome) → KeepsLow f → AtTerms Whole (bounded f) → (z : Year) (j k : ℕ) → Sound z → j < z .terms → Within z k → Within (bounded f z j .year) k
+within-stays : (f : Year → ℕ → Outcome) → KeepsLow f → AtTerms Narrows (bounded f) → (z : Year) (j k : ℕ) → Sound z → j < z .terms → Within z k → Within (bounded f z j .year) k
 within-stays f low law z j k s l r = (
   r .0,
   le-trans (law z j s l .year .high-count k)
@@ -248,8 +249,8 @@ module _ (y : Year) (sound : Sound y) (alive : after y sound 7 .rule ≡ 0) (j :
   within : Narrower y seen × ((k : ℕ) → k < y .terms → Within seen k)
   within =
       let n = narrower-after y sound 6 in
-      let b = made-over y Within rule7 whole-7 (within-stays rule7 low-7 whole-7) within-made (after y sound 6) n (after y sound 6 .year .terms) (le-of-eq (n .terms-same)) in
-      known-over y Within rule8 whole-8 (within-stays rule8 low-8 whole-8) (after y sound 7) j (omega arith)
+      let b = made-over y Within rule7 narrows-7 (within-stays rule7 low-7 narrows-7) within-made (after y sound 6) n (after y sound 6 .year .terms) (le-of-eq (n .terms-same)) in
+      known-over y Within rule8 narrows-8 (within-stays rule8 low-8 narrows-8) (after y sound 7) j (omega arith)
       (b .0, λ k l. b .1 alive k (omega (arith, n .terms-same)))
 
   pub rule8-reaches : lowCount seen j ≤ walkOf seen j (until.Count (lowCount seen j)) (up seen) .count

@@ -6,7 +6,8 @@ use lib.ListN.{replicate}
 use Rattle.theory.specs.Choice.{choose}
 use Rattle.year.specs.Year.{termOf, courseOf, lowCredits, highCredits, lowCount, highCount, weight, list}
 use Rattle.year.specs.Narrow.{barOf}
-use Rattle.year.specs.Imbalance.{smallest, onePlan, spreadOf, imbalanceOf}
+use Rattle.theory.specs.Largest.{smallest}
+use Rattle.year.specs.Imbalance.{onePlan, spreadOf, imbalanceOf}
 use Rattle.year.specs.Numbers.{narrowingNumber, imbalanceNumber, imbalanceValue}
 use Rattle.year.specs.declared.Year.{Year}
 use Rattle.records.specs.Numbers.{readingNumber}

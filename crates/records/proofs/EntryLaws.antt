@@ -9,7 +9,7 @@ use lib.Dec.{eqb, leb, ltb}
 use lib.Pow.{pow-pos}
 use borrow.Author.Tests.{ltb-false, leb-true, leb-false, eqb-true, eqb-false, not-false}
 use Rattle.theory.specs.Choice.{choose}
-use Rattle.theory.specs.Tests.{and-true, or-false}
+use Rattle.theory.proofs.TestLaws.{and-true, or-false}
 use Rattle.year.specs.Year.{termOf, courseOf}
 use Rattle.year.specs.Sound.{TermSound, CourseSound}
 use Rattle.year.specs.declared.Term.{Term}

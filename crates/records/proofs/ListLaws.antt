@@ -12,7 +12,7 @@ use lib.ListN.{length, length-set, length-replicate, getD-replicate}
 use lib.Seq.{getD-set-same, getD-set-other}
 use borrow.Author.Tests.{eqb-true, eqb-false, not-false}
 use Rattle.theory.specs.Choice.{choose}
-use Rattle.theory.specs.Tests.{or-false}
+use Rattle.theory.proofs.TestLaws.{or-false}
 use Rattle.year.specs.Year.{termAt, courseAt, zeroTerm, zeroCourse, emptyYear}
 use Rattle.year.specs.Sound.{TermSound, CourseSound, Sound}
 use Rattle.year.specs.declared.Term.{Term}

@@ -9,8 +9,9 @@ use lib.Dec.{lit<}
 use lib.ListN.{length, getD, take, drop, length-drop}
 use lib.Seq.{ext-getD, length-take-le, getD-take, getD-drop, getD-set-same, getD-set-other, take-add, take-length}
 use borrow.Author.Tests.{eqb-true}
-use Rattle.theory.specs.Tab.{tab, length-tab, getD-tab}
-use Rattle.theory.specs.Tests.{all-at}
+use Rattle.theory.specs.Tab.{tab}
+use Rattle.theory.proofs.TabLaws.{length-tab, getD-tab}
+use Rattle.theory.proofs.TestLaws.{all-at}
 use Rattle.year.specs.Year.{zeroTerm, zeroCourse}
 use Rattle.year.specs.declared.Term.{Term}
 use Rattle.year.specs.declared.Course.{Course}

@@ -11,7 +11,7 @@ use lib.Dec.{eqb, leb, lit<}
 use lib.ListN.{length, getD, set, replicate, length-replicate, getD-replicate, List·getD-append}
 use lib.Seq.{ext-getD, getD-append-add, getD-set-other}
 use borrow.Author.Tests.{le-ltb, le-leb, lt-leb, eq-eqb, ne-eqb}
-use Rattle.theory.specs.Tab.{fill, length-fill, getD-fill}
+use Rattle.theory.proofs.TabLaws.{fill, length-fill, getD-fill}
 use Rattle.theory.specs.Tests.{all}
 use Rattle.year.specs.Year.{termAt, courseAt, zeroTerm, zeroCourse}
 use Rattle.year.specs.Sound.{TermSound, CourseSound, Sound}

@@ -3,13 +3,14 @@ use Prim.Native.Nat.{ℕ, _<_}
 use mathlib.Core.Path.{_≡_, refl, ap, _∙_}
 use native.Mathlib.Omega.{arith}
 use lib.Dec.{eqb}
-use Rattle.theory.specs.Sum.{pick, sum, sum-cong}
+use Rattle.theory.specs.Sum.{pick, sum}
+use Rattle.theory.proofs.SumLaws.{sum-cong}
 use Rattle.year.specs.Year.{weight, withList}
 use Rattle.year.specs.Plans.{Placing, creditsIn, countIn}
 use Rattle.year.specs.Sound.{Sound}
 use Rattle.year.specs.declared.Year.{Year}
 use Rattle.year.proofs.DoorLaws.{weight-same}
-use Rattle.rules.proofs.Whole.{Narrower}
+use Rattle.rules.proofs.Narrows.{Narrower}
 
 pub record Alike (y z : Year) : Type 0 where
   pub terms-same : z .terms ≡ y .terms

@@ -5,8 +5,9 @@ use mathlib.Core.Path.{refl}
 use native.Mathlib.Omega.{arith}
 use lib.Dec.{ltb}
 use borrow.Author.Tests.{le-ltb}
-use Rattle.theory.specs.Counting.{sum-ones}
-use Rattle.theory.specs.Load.{load, others, rule-2-low, rule-2-high}
+use Rattle.theory.proofs.Counting.{sum-ones}
+use Rattle.theory.proofs.LoadLaws.{load, rule-2-low, rule-2-high}
+use Rattle.theory.specs.Others.{others}
 use Rattle.year.specs.Year.{weight, lowCredits, highCredits, lowCount, highCount}
 use Rattle.year.specs.Sums.{fixedCredits, possibleCredits, fixedCount, openCount, allCredits, allCourses}
 use Rattle.year.specs.Plans.{Placing, creditsIn, countIn, Plan}
@@ -14,7 +15,7 @@ use Rattle.year.specs.Sound.{Sound}
 use Rattle.year.specs.declared.Year.{Year}
 use Rattle.rules.specs.Step.{put}
 use Rattle.rules.specs.Bounds.{rule1, rule2, rule4, rule5}
-use Rattle.rules.proofs.Kept.{Kept}
+use Rattle.rules.proofs.PlansKept.{PlansKept}
 use Rattle.rules.proofs.OutcomeKept.{credits-kept, counts-kept}
 use Rattle.rules.proofs.PlanSums.{credits-floor, credits-roof, count-floor, count-roof}
 
@@ -35,13 +36,13 @@ module _ (y : Year) (p : Placing) (plan : Plan y p) (j : ℕ) (l : j < y .terms)
   )
 
 module _ (y : Year) (j : ℕ) (s : Sound y) (l : j < y .terms) where
-  pub rule1-kept : Kept y (put y j (rule1 y j))
+  pub rule1-kept : PlansKept y (put y j (rule1 y j))
   unfolding rule1
   rule1-kept =
       credits-kept y j (fixedCredits y j) (possibleCredits y j) 1 false s l (λ e. omega arith)
       (λ p plan. (refl, credits-floor y p plan j, credits-roof y p plan j))
 
-  pub rule2-kept : Kept y (put y j (rule2 y j))
+  pub rule2-kept : PlansKept y (put y j (rule2 y j))
   unfolding rule2
   rule2-kept =
       credits-kept y j (allCredits y - others (y .terms) j (highCredits y)) (allCredits y - others (y .terms) j (lowCredits y)) 2
@@ -50,13 +51,13 @@ module _ (y : Year) (j : ℕ) (s : Sound y) (l : j < y .terms) where
       let r = credits-rest y p plan j l in
       (le-ltb (allCredits y) (others (y .terms) j (lowCredits y)) (omega (arith, r .1)), r .0, omega (arith, r .1)))
 
-  pub rule4-kept : Kept y (put y j (rule4 y j))
+  pub rule4-kept : PlansKept y (put y j (rule4 y j))
   unfolding rule4
   rule4-kept =
       counts-kept y j (fixedCount y j) (fixedCount y j + openCount y j) 4 false s l (λ e. omega arith)
       (λ p plan. (refl, count-floor y p plan j, count-roof y p plan j))
 
-  pub rule5-kept : Kept y (put y j (rule5 y j))
+  pub rule5-kept : PlansKept y (put y j (rule5 y j))
   unfolding rule5
   rule5-kept =
       counts-kept y j (allCourses y - others (y .terms) j (highCount y)) (allCourses y - others (y .terms) j (lowCount y)) 5

@@ -7,8 +7,9 @@ use native.Mathlib.Omega.{arith}
 use native.Mathlib.Decide.{ℕ-discrete}
 use lib.Dec.{eqb}
 use borrow.Author.Tests.{eqb-true, eq-eqb, ne-eqb}
-use Rattle.theory.specs.Tests.{and-true, and-of}
-use Rattle.theory.specs.Bits.{has, has-power, has-struck}
+use Rattle.theory.proofs.TestLaws.{and-true, and-of}
+use Rattle.theory.specs.Bits.{has}
+use Rattle.theory.proofs.BitLaws.{has-power, has-struck}
 use Rattle.year.specs.Year.{termAt, courseAt, list, lists, withTerm, withList, placed, struck}
 use Rattle.year.specs.Tight.{creditsWithin, countsWithin}
 use Rattle.year.specs.Plans.{Placing, creditsIn, countIn, Plan}

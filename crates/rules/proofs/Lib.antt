@@ -1,9 +1,8 @@
--- Laws about the rules. Every step leaves a whole year and less to narrow; every rule keeps exactly the plans.
-pub mod Measure
-pub mod Whole
-pub mod Holding
+-- Laws about the rules. Every step narrows the year it is given or leaves it; every rule keeps exactly the plans.
+pub mod Leeway
+pub mod Narrows
 pub mod Steps
-pub mod Kept
+pub mod PlansKept
 pub mod Alike
 pub mod DoorPlans
 pub mod Reading

@@ -7,9 +7,12 @@ use native.Mathlib.Nat.{le-refl}
 use native.Mathlib.Decide.{ℕ-discrete}
 use lib.Dec.{eqb, ltb}
 use borrow.Author.Tests.{eqb-true, eq-eqb, ltb-true, le-ltb}
-use Rattle.theory.specs.Choice.{choose, choose-case}
-use Rattle.theory.specs.Sum.{pick, sum-cong}
-use Rattle.theory.specs.Bits.{has, has-power, has-struck}
+use Rattle.theory.specs.Choice.{choose}
+use Rattle.theory.proofs.ChoiceLaws.{choose-case}
+use Rattle.theory.specs.Sum.{pick}
+use Rattle.theory.proofs.SumLaws.{sum-cong}
+use Rattle.theory.specs.Bits.{has}
+use Rattle.theory.proofs.BitLaws.{has-power, has-struck}
 use Rattle.year.specs.Year.{courseAt, weight, list, lists, isFixed, isOpen, lowCredits, highCredits, lowCount, highCount, placed, struck}
 use Rattle.year.specs.Sums.{fixedCredits, possibleCredits, fixedCount, openCount}
 use Rattle.year.specs.Plans.{Placing, Plan}
@@ -22,9 +25,9 @@ use Rattle.rules.specs.Lists.{verdict3, rule3Course, rule3, full, needed
 use Rattle.rules.specs.declared.Verdict.{Verdict}
 use Rattle.rules.specs.declared.Verdict.the-variants.{Stays, Struck, Fixed}
 use Rattle.rules.proofs.Steps.{lawful-3, lawful-10}
-use Rattle.rules.proofs.Kept.{Kept}
+use Rattle.rules.proofs.PlansKept.{PlansKept}
 use Rattle.rules.proofs.KeptOver.{kept-rest, kept-dead, kept-over}
-use Rattle.rules.proofs.Whole.{Narrower, narrower-self, narrower-then}
+use Rattle.rules.proofs.Narrows.{Narrower, narrower-self, narrower-then}
 use Rattle.rules.proofs.DoorPlans.{placed-plans, struck-plans}
 use Rattle.rules.proofs.PlanSums.{open-facts, credits-with, credits-without, count-floor, count-roof, count-with, count-without, count-halves}
 
@@ -32,7 +35,7 @@ use Rattle.rules.proofs.PlanSums.{open-facts, credits-with, credits-wit
 
 module _ (z : Year) (i j : ℕ) (s : Sound z) (l : i < z .courses) (o : isOpen (courseAt z i) j ≡ true) where
   -- no plan puts the course into j
-  struck-kept : ((p : Placing) → Plan z p → p i ≡ j → ⊥) → Kept z (judged z i j Struck)
+  struck-kept : ((p : Placing) → Plan z p → p i ≡ j → ⊥) → PlansKept z (judged z i j Struck)
   struck-kept h =
       let e = open-facts (courseAt z i) j o .0 in
       record {
@@ -42,7 +45,7 @@ module _ (z : Year) (i j : ℕ) (s : Sound z) (l : i < z .courses) (o : isOpen (
       }
 
   -- every plan puts it there: no plan puts it elsewhere
-  fixed-kept : ((p : Placing) → Plan z p → (p i ≡ j → ⊥) → ⊥) → Kept z (judged z i j Fixed)
+  fixed-kept : ((p : Placing) → Plan z p → (p i ≡ j → ⊥) → ⊥) → PlansKept z (judged z i j Fixed)
   fixed-kept h =
       let e = open-facts (courseAt z i) j o .0 in
       record {
@@ -58,7 +61,7 @@ module _ (z : Year) (i j : ℕ) (s : Sound z) (l : i < z .courses) (o : isOpen (
 -- ---- rule 3
 
 module _ (z : Year) (i j : ℕ) (s : Sound z) (l : i < z .courses) (m : j < z .terms) where
-  course3-kept : Kept z (rule3Course j z i)
+  course3-kept : PlansKept z (rule3Course j z i)
   unfolding rule3Course verdict3
   course3-kept =
       choose-case keeps (isOpen (courseAt z i) j)
@@ -77,9 +80,9 @@ module _ (z : Year) (i j : ℕ) (s : Sound z) (l : i < z .courses) (m : j < z .t
       (λ o. kept-rest z)
     where
       keeps : Verdict → Type 0
-      keeps v = Kept z (judged z i j v)
+      keeps v = PlansKept z (judged z i j v)
 
-pub rule3-kept : (y : Year) (j : ℕ) → Sound y → j < y .terms → Kept y (rule3 y j)
+pub rule3-kept : (y : Year) (j : ℕ) → Sound y → j < y .terms → PlansKept y (rule3 y j)
 unfolding rule3
 rule3-kept y j s l =
     kept-over (rule3Course j) (Narrower y) (y .courses)
@@ -133,12 +136,12 @@ module _ (z : Year) (i j : ℕ) (s : Sound z) (l : i < z .courses) (o : isOpen (
       go a (no d) = ap (λ (c : Course). lists c j) (course-other z i (2 ^ j) a d)
 
 module _ (z : Year) (i j : ℕ) (s : Sound z) (l : i < z .courses) (m : j < z .terms) where
-  course10 : (f n : Bool) → Asked f n j z → Kept z (rule10Course f n j z i) × Asked f n j (rule10Course f n j z i .year)
+  course10 : (f n : Bool) → Asked f n j z → PlansKept z (rule10Course f n j z i) × Asked f n j (rule10Course f n j z i .year)
   unfolding rule10Course verdict10
   course10 f n a = choose-case (holds f n) (isOpen (courseAt z i) j) (choose f Struck (choose n Fixed Stays)) Stays (λ o. go f n a o) (λ o. (kept-rest z, a))
     where
       holds : Bool → Bool → Verdict → Type 0
-      holds f n v = Kept z (judged z i j v) × Asked f n j (judged z i j v .year)
+      holds f n v = PlansKept z (judged z i j v) × Asked f n j (judged z i j v .year)
 
       go : (f n : Bool) → Asked f n j z → isOpen (courseAt z i) j ≡ true → holds f n (choose f Struck (choose n Fixed Stays))
       go true n a o = (struck-kept z i j s l o (λ p q r. omega (arith, a, count-with z p q j i l o r, q .count-high j m)), fixed-struck z i j s l o ∙ a)
@@ -150,10 +153,10 @@ asked-first y j true n a b = eqb-true (fixedCount y j) (highCount y j) a
 asked-first y j false true a b = eqb-true (fixedCount y j + openCount y j) (lowCount y j) b
 asked-first y j false false a b = tt
 
-pub rule10-kept : (y : Year) (j : ℕ) → Sound y → j < y .terms → Kept y (rule10 y j)
+pub rule10-kept : (y : Year) (j : ℕ) → Sound y → j < y .terms → PlansKept y (rule10 y j)
 unfolding rule10
 rule10-kept y j s l =
-    choose-case (Kept y) (ltb (highCount y j) (fixedCount y j) || ltb (fixedCount y j + openCount y j) (lowCount y j)) (dead 10 y)
+    choose-case (PlansKept y) (ltb (highCount y j) (fixedCount y j) || ltb (fixedCount y j + openCount y j) (lowCount y j)) (dead 10 y)
     (overCourses (rule10Course (full y j) (needed y j) j) (live y))
     (λ e.
     kept-dead y 10 (λ z. omega arith)

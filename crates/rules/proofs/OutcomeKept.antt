@@ -5,7 +5,7 @@ use mathlib.Core.Path.{_≡_, refl, sym, ap₂, _∙_}
 use native.Mathlib.Omega.{arith}
 use lib.Dec.{ltb}
 use borrow.Author.Tests.{le-ltb}
-use Rattle.theory.specs.Choice.{choose-case}
+use Rattle.theory.proofs.ChoiceLaws.{choose-case}
 use Rattle.year.specs.Year.{termAt, lowCredits, highCredits, lowCount, highCount, withTerm}
 use Rattle.year.specs.Tight.{creditsWithin, countsWithin}
 use Rattle.year.specs.Plans.{Placing, creditsIn, countIn, Plan}
@@ -13,7 +13,7 @@ use Rattle.year.specs.Sound.{Sound}
 use Rattle.year.specs.declared.Tight.{Tight}
 use Rattle.year.specs.declared.Year.{Year}
 use Rattle.rules.specs.Step.{outcome, outcomeOf, put}
-use Rattle.rules.proofs.Kept.{Kept}
+use Rattle.rules.proofs.PlansKept.{PlansKept}
 use Rattle.rules.proofs.DoorPlans.{credits-plans, counts-plans}
 
 -- the tighter bounds w of term j under rule r, of which `fails` is what the rule itself calls no plan
@@ -21,10 +21,10 @@ module _ (y : Year) (j r : ℕ) (fails : Bool) (w : Tight) (rule : r ≡ 0 → �
     (no-fault : (p : Placing) → Plan y p → fails || w .crossed ≡ false)
     (none-lost : (p : Placing) → Plan y p → Plan (withTerm y j (w .term)) p)
     (none-new : (p : Placing) → Plan (withTerm y j (w .term)) p → Plan y p) where
-  outcome-kept : Kept y (put y j (outcome r fails (termAt y j) w))
+  outcome-kept : PlansKept y (put y j (outcome r fails (termAt y j) w))
   unfolding outcome
   outcome-kept =
-      choose-case (λ o. Kept y (put y j o)) (fails || w .crossed) (outcomeOf (termAt y j) false r) (outcomeOf (w .term) (w .altered) 0)
+      choose-case (λ o. PlansKept y (put y j o)) (fails || w .crossed) (outcomeOf (termAt y j) false r) (outcomeOf (w .term) (w .altered) 0)
       (λ e. record {
         none-lost = λ z p h. absurd (rule z);
         none-new = λ z p h. absurd (rule z);
@@ -38,7 +38,7 @@ no-crossing low high a b x p q r s = le-ltb (min high b) (max low a) (omega arit
 
 module _ (y : Year) (j a b r : ℕ) (fails : Bool) (s : Sound y) (l : j < y .terms) (rule : r ≡ 0 → ⊥) where
   pub credits-kept : ((p : Placing) → Plan y p → (fails ≡ false) × (a ≤ creditsIn y p j) × (creditsIn y p j ≤ b))
-      → Kept y (put y j (outcome r fails (termAt y j) (creditsWithin (termAt y j) a b)))
+      → PlansKept y (put y j (outcome r fails (termAt y j) (creditsWithin (termAt y j) a b)))
   unfolding creditsWithin
   credits-kept h =
       outcome-kept y j r fails (creditsWithin (termAt y j) a b) rule
@@ -49,7 +49,7 @@ module _ (y : Year) (j a b r : ℕ) (fails : Bool) (s : Sound y) (l : j < y .ter
       (λ p plan. credits-plans y j a b p s l .0 plan .0)
 
   pub counts-kept : ((p : Placing) → Plan y p → (fails ≡ false) × (a ≤ countIn y p j) × (countIn y p j ≤ b))
-      → Kept y (put y j (outcome r fails (termAt y j) (countsWithin (termAt y j) a b)))
+      → PlansKept y (put y j (outcome r fails (termAt y j) (countsWithin (termAt y j) a b)))
   unfolding countsWithin
   counts-kept h =
       outcome-kept y j r fails (countsWithin (termAt y j) a b) rule

@@ -6,20 +6,23 @@ use native.Mathlib.Omega.{arith}
 use native.Mathlib.Decide.{ℕ-discrete}
 use lib.Dec.{eqb}
 use borrow.Author.Tests.{eqb-false, eq-eqb, ltb-true}
-use Rattle.theory.specs.Choice.{choose, choose-case}
-use Rattle.theory.specs.Sum.{pick, sum-add, sum-mono}
-use Rattle.theory.specs.Tests.{any, any-true, any-of}
-use Rattle.theory.specs.Load.{load}
-use Rattle.theory.specs.Packing.{rule-11, ceiling}
+use Rattle.theory.specs.Choice.{choose}
+use Rattle.theory.proofs.ChoiceLaws.{choose-case}
+use Rattle.theory.specs.Sum.{pick}
+use Rattle.theory.proofs.SumLaws.{sum-add, sum-mono}
+use Rattle.theory.specs.Tests.{any}
+use Rattle.theory.proofs.TestLaws.{any-true, any-of}
+use Rattle.theory.proofs.LoadLaws.{load}
+use Rattle.theory.proofs.PackingLaws.{rule-11, ceiling}
 use Rattle.year.specs.Year.{courseAt, weight, isFixed, highCredits}
 use Rattle.year.specs.Sums.{fixedWeight, fixedCredits, isPlaced, placedAt}
-use Rattle.year.specs.Imbalance.{largest}
+use Rattle.theory.specs.Largest.{largest}
 use Rattle.year.specs.Plans.{Placing, creditsIn, Plan}
 use Rattle.year.specs.Sound.{Sound}
 use Rattle.year.specs.declared.Year.{Year}
 use Rattle.rules.specs.Step.{live, dead}
 use Rattle.rules.specs.Packing.{burst, room, shares, roundedUp, bursts, rule11}
-use Rattle.rules.proofs.Kept.{Kept}
+use Rattle.rules.proofs.PlansKept.{PlansKept}
 use Rattle.rules.proofs.KeptOver.{kept-rest, kept-dead}
 use Rattle.rules.proofs.Reading.{fix}
 use Rattle.rules.proofs.PlanSums.{credits-floor}
@@ -74,14 +77,14 @@ module _ (y : Year) (p : Placing) (plan : Plan y p) (s : Sound y) where
       let less : t < room y / 2 + 1 = r .1 in
       omega (arith, ceiling (room y) (y .terms) (shares y (room y) t) (omega (arith, d)) .0 over, shares-fit t (omega arith))
 
-pub rule11-kept : (y : Year) → Sound y → Kept y (rule11 y)
+pub rule11-kept : (y : Year) → Sound y → PlansKept y (rule11 y)
 unfolding rule11
 rule11-kept y s =
-    choose-case (Kept y) (any (y .terms) (burst y)) (dead 11 y) (choose (eqb (room y) 0) (live y) (choose (any (room y / 2 + 1) (bursts y (room y))) (dead 11 y) (live y)))
+    choose-case (PlansKept y) (any (y .terms) (burst y)) (dead 11 y) (choose (eqb (room y) 0) (live y) (choose (any (room y / 2 + 1) (bursts y (room y))) (dead 11 y) (live y)))
     (λ e. kept-dead y 11 (λ z. omega arith) (λ p q. no-burst y p q s e))
     (λ e.
-    choose-case (Kept y) (eqb (room y) 0) (live y) (choose (any (room y / 2 + 1) (bursts y (room y))) (dead 11 y) (live y)) (λ c. kept-rest y)
+    choose-case (PlansKept y) (eqb (room y) 0) (live y) (choose (any (room y / 2 + 1) (bursts y (room y))) (dead 11 y) (live y)) (λ c. kept-rest y)
     (λ c.
-    choose-case (Kept y) (any (room y / 2 + 1) (bursts y (room y))) (dead 11 y) (live y)
+    choose-case (PlansKept y) (any (room y / 2 + 1) (bursts y (room y))) (dead 11 y) (live y)
     (λ b. kept-dead y 11 (λ z. omega arith) (λ p q. no-bursts y p q s (eqb-false (room y) 0 c) b))
     (λ b. kept-rest y)))

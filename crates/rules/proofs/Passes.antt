@@ -4,22 +4,23 @@ use mathlib.Core.Bool.{Bool, true, false, _||_}
 use mathlib.Core.List.{List, [], _∷_}
 use mathlib.Core.Logic.{_↔_}
 use mathlib.Core.Path.{_≡_, refl, sym, ap, subst, _∙_}
+use native.Mathlib.Nat.{le-refl}
 use lib.Dec.{eqb}
 use lib.ListN.{take, drop}
 use borrow.Author.Tests.{eqb-true}
-use Rattle.theory.specs.Choice.{choose-case}
+use Rattle.theory.proofs.ChoiceLaws.{choose-case}
+use Rattle.theory.proofs.FoldLaws.{fold-none, fold-told}
 use Rattle.year.specs.Sound.{Sound}
 use Rattle.year.specs.declared.Year.{Year}
-use Rattle.rules.specs.Step.{step, live, next, overTo, overTerms}
+use Rattle.rules.specs.Step.{goes, then, step, live, overTo, overTerms, Step, joined}
 use Rattle.rules.specs.Bounds.{rule1, rule2, rule4, rule5}
 use Rattle.rules.specs.Lists.{rule3, rule10}
 use Rattle.rules.specs.Spares.{rule6, rule7, rule8, rule9}
 use Rattle.rules.specs.Packing.{rule11}
 use Rattle.rules.specs.Round.{bounded, once, passes, inRow, rulesOf, rulesFrom, round}
-use Rattle.rules.specs.declared.Step.{Step}
-use Rattle.rules.proofs.Whole.{Narrower, narrower-then, Whole, quiet, whole-rest, joined, whole-next, next-dead}
-use Rattle.rules.proofs.Steps.{whole-1, whole-2, whole-3, whole-4, whole-5, whole-6, whole-7, whole-8, whole-9, whole-10, whole-11, whole-terms}
-use Rattle.rules.proofs.Kept.{Kept}
+use Rattle.rules.proofs.Narrows.{Narrower, narrower-then, Narrows, quiet, narrows-rest, narrows-next, next-dead}
+use Rattle.rules.proofs.Steps.{narrows-1, narrows-2, narrows-3, narrows-4, narrows-5, narrows-6, narrows-7, narrows-8, narrows-9, narrows-10, narrows-11, narrows-terms}
+use Rattle.rules.proofs.PlansKept.{PlansKept}
 use Rattle.rules.proofs.KeptOver.{kept-rest, kept-next, AtTerms, kept-terms}
 use Rattle.rules.proofs.BoundsKept.{rule1-kept, rule2-kept, rule4-kept, rule5-kept}
 use Rattle.rules.proofs.ListsKept.{rule3-kept, rule10-kept}
@@ -32,53 +33,45 @@ pub record Pass (p : Step → Step) : Type 0 where
   -- it reads the year alone, adds its mark to the one it got, and lets a step that found no plan pass
   pub steps : (s : Step) → p s ≡ once (λ y. p (live y)) s
   -- it leaves a sound year, with no bound looser and no list longer, and marks it exactly if it is another
-  pub whole : (y : Year) → Sound y → Whole y (p (live y))
+  pub narrows : (y : Year) → Sound y → Narrows y (p (live y))
   -- it keeps exactly the plans, and says no plan only where there is none
-  pub kept : (y : Year) → Sound y → Kept y (p (live y))
+  pub kept : (y : Year) → Sound y → PlansKept y (p (live y))
 
 -- ---- a rule over the terms is a pass if it is lawful at each term
 
-or-none : (a : Bool) → a ≡ a || false
+or-none : (a : Bool) → a || false ≡ a
 or-none true = refl
 or-none false = refl
 
-or-more : (a b c : Bool) → (a || b) || c ≡ a || (b || c)
+or-more : (a b c : Bool) → a || (b || c) ≡ (a || b) || c
 or-more true b c = refl
 or-more false b c = refl
 
-next-joined : (f : Year → ℕ → Step) (s t : Step) (k : ℕ) → next f (joined s t) k ≡ joined s (next f t k)
-next-joined f s t k = go (eqb (t .rule) 0) refl
-  where
-    go : (b : Bool) → eqb (t .rule) 0 ≡ b → next f (joined s t) k ≡ joined s (next f t k)
-    go true e = rw e (λ i. step (f (t .year) k .year) (or-more (s .altered) (t .altered) (f (t .year) k .altered) i) (f (t .year) k .rule))
-    go false e = rw e refl
-
-over-joined : (f : Year → ℕ → Step) (s : Step) → s .rule ≡ 0 → (n : ℕ) → overTo f s n ≡ joined s (overTo f (live (s .year)) n)
-unfolding overTo
-over-joined f s e zero = λ i. step (s .year) (or-none (s .altered) i) (e i)
-over-joined f s e (suc n) = ap (λ t. next f t n) (over-joined f s e n) ∙ next-joined f s (overTo f (live (s .year)) n) n
-
-over-last : (f : Year → ℕ → Step) (s : Step) → eqb (s .rule) 0 ≡ false → (n : ℕ) → overTo f s n ≡ s
-unfolding overTo
-over-last f s e zero = refl
-over-last f s e (suc n) = ap (λ t. next f t n) (over-last f s e n) ∙ next-dead f s n e
+-- what was altered before does not count for what is altered now
+pub over-joined : (f : Year → ℕ → Step) (s : Step) → s .rule ≡ 0 → (n : ℕ) → overTo f s n ≡ joined s (overTo f (live (s .year)) n)
+over-joined f s e n =
+    sym
+    (fold-told goes (then f) goes (then f) (joined s) (λ z. Unit {0}) n (λ z. refl) (λ z k l g u. tt)
+    (λ z k l g u i. step (f (z .year) k .year) (or-more (s .altered) (z .altered) (f (z .year) k .altered) i) (f (z .year) k .rule))
+    (live (s .year)) tt n (le-refl n)
+    ∙ ap (λ t. overTo f t n) (λ i. step (s .year) (or-none (s .altered) i) (sym e i)))
 
 terms-steps : (f : Year → ℕ → Step) (s : Step) → overTerms f s ≡ once (λ y. overTerms f (live y)) s
 terms-steps f s = go (eqb (s .rule) 0) refl
   where
     go : (b : Bool) → eqb (s .rule) 0 ≡ b → overTerms f s ≡ once (λ y. overTerms f (live y)) s
     go true e = rw e (over-joined f s (eqb-true (s .rule) 0 e) (s .year .terms))
-    go false e = rw e (over-last f s e (s .year .terms))
+    go false e = rw e (fold-none goes (then f) s e (s .year .terms))
 
-pub pass-terms : (f : Year → ℕ → Step) → AtTerms Whole f → AtTerms Kept f → Pass (overTerms f)
-pass-terms f whole kept = record {
+pub pass-terms : (f : Year → ℕ → Step) → AtTerms Narrows f → AtTerms PlansKept f → Pass (overTerms f)
+pass-terms f narrows kept = record {
   steps = terms-steps f;
-  whole = λ y s. whole-terms f y (live y) whole (whole-rest y 0 s);
-  kept = λ y s. kept-terms f kept whole y (live y) s (kept-rest y);
+  narrows = λ y s. narrows-terms f y (live y) narrows (narrows-rest y 0 s);
+  kept = λ y s. kept-terms f kept narrows y (live y) s (kept-rest y);
 }
 
-pub pass-once : (f : Year → Step) → ((y : Year) → Sound y → Whole y (f y)) → ((y : Year) → Sound y → Kept y (f y)) → Pass (once f)
-pass-once f whole kept = record { steps = λ s. refl; whole = whole; kept = kept }
+pub pass-once : (f : Year → Step) → ((y : Year) → Sound y → Narrows y (f y)) → ((y : Year) → Sound y → PlansKept y (f y)) → Pass (once f)
+pass-once f narrows kept = record { steps = λ s. refl; narrows = narrows; kept = kept }
 
 -- ---- each of the eleven
 
@@ -92,17 +85,17 @@ a also b = (a, b)
 
 pub lawful : Each Pass passes
 lawful =
-    pass-terms (bounded rule1) whole-1 rule1-kept
-    also pass-terms (bounded rule2) whole-2 rule2-kept
-    also pass-terms rule3 whole-3 rule3-kept
-    also pass-terms (bounded rule4) whole-4 rule4-kept
-    also pass-terms (bounded rule5) whole-5 rule5-kept
-    also pass-terms (bounded rule6) whole-6 rule6-kept
-    also pass-terms (bounded rule7) whole-7 rule7-kept
-    also pass-terms (bounded rule8) whole-8 rule8-kept
-    also pass-terms (bounded rule9) whole-9 rule9-kept
-    also pass-terms rule10 whole-10 rule10-kept
-    also pass-once rule11 whole-11 rule11-kept
+    pass-terms (bounded rule1) narrows-1 rule1-kept
+    also pass-terms (bounded rule2) narrows-2 rule2-kept
+    also pass-terms rule3 narrows-3 rule3-kept
+    also pass-terms (bounded rule4) narrows-4 rule4-kept
+    also pass-terms (bounded rule5) narrows-5 rule5-kept
+    also pass-terms (bounded rule6) narrows-6 rule6-kept
+    also pass-terms (bounded rule7) narrows-7 rule7-kept
+    also pass-terms (bounded rule8) narrows-8 rule8-kept
+    also pass-terms (bounded rule9) narrows-9 rule9-kept
+    also pass-terms rule10 narrows-10 rule10-kept
+    also pass-once rule11 narrows-11 rule11-kept
     also tt
 
 -- ---- one pass more
@@ -111,11 +104,11 @@ module _ (p : Step → Step) (law : Pass p) (s : Step) where
   pub pass-last : eqb (s .rule) 0 ≡ false → p s ≡ s
   pass-last e = law .steps s ∙ next-dead (λ y k. p (live y)) s 0 e
 
-  pub pass-whole : (y : Year) → Whole y s → Whole y (p s)
-  pass-whole y a = subst (Whole y) (sym (law .steps s)) (whole-next (λ z k. p (live z)) y s 0 a (law .whole (s .year) (a .year .sound)))
+  pub pass-narrows : (y : Year) → Narrows y s → Narrows y (p s)
+  pass-narrows y a = subst (Narrows y) (sym (law .steps s)) (narrows-next (λ z k. p (live z)) y s 0 a (law .narrows (s .year) (a .year .sound)))
 
-  pub pass-kept : (y : Year) → Sound (s .year) → Kept y s → Kept y (p s)
-  pass-kept y a b = subst (Kept y) (sym (law .steps s)) (kept-next (λ z k. p (live z)) y s 0 b (λ e. law .kept (s .year) a))
+  pub pass-kept : (y : Year) → Sound (s .year) → PlansKept y s → PlansKept y (p s)
+  pass-kept y a b = subst (PlansKept y) (sym (law .steps s)) (kept-next (λ z k. p (live z)) y s 0 b (λ e. law .kept (s .year) a))
 
 -- ---- passes in a row
 
@@ -145,12 +138,12 @@ module _ (ps : List (Step → Step)) (laws : Each Pass ps) (s : Step) where
   pub row-last : eqb (s .rule) 0 ≡ false → inRow ps s ≡ s
   row-last e = row-keeps (λ t. t ≡ s) (λ p l t q. ap p q ∙ pass-last p l s e) ps laws s refl
 
-  pub row-whole : (y : Year) → Whole y s → Whole y (inRow ps s)
-  row-whole y = row-keeps (Whole y) (λ p l t. pass-whole p l t y) ps laws s
+  pub row-narrows : (y : Year) → Narrows y s → Narrows y (inRow ps s)
+  row-narrows y = row-keeps (Narrows y) (λ p l t. pass-narrows p l t y) ps laws s
 
-  pub row-kept : (y : Year) → Whole y s → Kept y s → Kept y (inRow ps s)
+  pub row-kept : (y : Year) → Narrows y s → PlansKept y s → PlansKept y (inRow ps s)
   row-kept y a b =
-      row-keeps (λ t. Whole y t × Kept y t) (λ p l t c. (pass-whole p l t y (c .0), pass-kept p l t y (c .0 .year .sound) (c .1))) ps laws s (a, b) .1
+      row-keeps (λ t. Narrows y t × PlansKept y t) (λ p l t c. (pass-narrows p l t y (c .0), pass-kept p l t y (c .0 .year .sound) (c .1))) ps laws s (a, b) .1
 
 -- the year gets no wider
 pub row-narrower : (ps : List (Step → Step)) → Each Pass ps → (y : Year) (s : Step) → Narrower y (s .year) → Narrower y (inRow ps s .year)
@@ -160,7 +153,7 @@ row-narrower ps laws y = row-keeps (λ (t : Step). Narrower y (t .year)) (λ p l
     one p l s a =
         subst (λ (t : Step). Narrower y (t .year)) (sym (l .steps s))
         (choose-case (λ (t : Step). Narrower y (t .year)) (eqb (s .rule) 0) (joined s (p (live (s .year)))) s
-        (λ e. narrower-then y (s .year) (p (live (s .year)) .year) a (l .whole (s .year) (a .sound) .year)) (λ e. a))
+        (λ e. narrower-then y (s .year) (p (live (s .year)) .year) a (l .narrows (s .year) (a .sound) .year)) (λ e. a))
 
 -- ---- rules a to b of the round
 
@@ -172,17 +165,17 @@ lawful-from a = each-drop Pass (a - 1) passes lawful
 
 -- ---- a round
 
-pub whole-round : (y : Year) → Sound y → Whole y (round y)
+pub narrows-round : (y : Year) → Sound y → Narrows y (round y)
 unfolding round
-whole-round y s = row-whole passes lawful (live y) y (whole-rest y 0 s)
+narrows-round y s = row-narrows passes lawful (live y) y (narrows-rest y 0 s)
 
-pub round-kept : (y : Year) → Sound y → Kept y (round y)
+pub round-kept : (y : Year) → Sound y → PlansKept y (round y)
 unfolding round
-round-kept y s = row-kept passes lawful (live y) y (whole-rest y 0 s) (kept-rest y)
+round-kept y s = row-kept passes lawful (live y) y (narrows-rest y 0 s) (kept-rest y)
 
 -- a round, also one that ends in a no plan, is marked unaltered exactly if it leaves the year it was given
 pub round-quiet : (y : Year) → Sound y → (round y .altered ≡ false) ↔ (round y .year ≡ y)
-round-quiet y s = quiet y (round y) (whole-round y s)
+round-quiet y s = quiet y (round y) (narrows-round y s)
 
 -- so is a pass: it adds no mark to the one it got exactly if it leaves the year it was given
 pub pass-quiet : (p : Step → Step) → Pass p → (s : Step) → Sound (s .year)
@@ -192,9 +185,9 @@ pass-quiet p law s a = go (eqb (s .rule) 0) refl
     go : (b : Bool) → eqb (s .rule) 0 ≡ b → (m : Bool) × (p s .altered ≡ s .altered || m) × ((m ≡ false) ↔ (p s .year ≡ s .year))
     go true e =
         let is : p s ≡ joined s (p (live (s .year))) = law .steps s ∙ rw e refl in
-        let q = quiet (s .year) (p (live (s .year))) (law .whole (s .year) a) in
+        let q = quiet (s .year) (p (live (s .year))) (law .narrows (s .year) a) in
         let year = ap (λ (t : Step). t .year) is in
         (p (live (s .year)) .altered, ap (λ (t : Step). t .altered) is, (λ z. year ∙ q .0 z, λ z. q .1 (sym year ∙ z)))
     go false e =
         let is = pass-last p law s e in
-        (false, ap (λ (t : Step). t .altered) is ∙ or-none (s .altered), (λ z. ap (λ (t : Step). t .year) is, λ z. refl))
+        (false, ap (λ (t : Step). t .altered) is ∙ sym (or-none (s .altered)), (λ z. ap (λ (t : Step). t .year) is, λ z. refl))

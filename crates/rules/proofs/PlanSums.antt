@@ -5,8 +5,8 @@ use mathlib.Core.Path.{_≡_, refl, sym, _∙_}
 use native.Mathlib.Omega.{arith}
 use borrow.Author.Tests.{eq-eqb}
 use Rattle.theory.specs.Sum.{pick, sum}
-use Rattle.theory.specs.Load.{load}
-use Rattle.theory.specs.Counting.{at-least, at-least-with, at-most, at-most-without, sum-halves}
+use Rattle.theory.proofs.LoadLaws.{load}
+use Rattle.theory.proofs.Counting.{at-least, at-least-with, at-most, at-most-without, sum-halves}
 use Rattle.year.specs.Year.{courseAt, weight, lists, isFixed, isOpen}
 use Rattle.year.specs.Sums.{fixedCredits, openCredits, possibleCredits, fixedCount, openCount}
 use Rattle.year.specs.Plans.{Placing, creditsIn, countIn, Plan}

@@ -4,8 +4,9 @@ use mathlib.Core.Bool.{Bool, true}
 use mathlib.Core.Path.{_≡_, sym, ap, _∙_}
 use lib.Dec.{eqb}
 use borrow.Author.Tests.{eqb-true}
-use Rattle.theory.specs.Bits.{has, has-power}
-use Rattle.theory.specs.Open.{Alone, Ins, Fix, ins-of, fix-of}
+use Rattle.theory.specs.Bits.{has}
+use Rattle.theory.proofs.BitLaws.{has-power}
+use Rattle.theory.proofs.Open.{Alone, Ins, Fix, ins-of, fix-of}
 use Rattle.year.specs.Year.{courseAt, lists, isFixed}
 use Rattle.year.specs.Plans.{Placing, Plan}
 use Rattle.year.specs.declared.Course.{Course}

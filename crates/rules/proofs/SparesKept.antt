@@ -9,14 +9,14 @@ use lib.Dec.{eqb, ltb}
 use lib.ListN.{getD}
 use borrow.Author.Tests.{eqb-true, eqb-false, le-ltb}
 use Rattle.theory.specs.Sum.{pick, sum}
-use Rattle.theory.specs.Tests.{and-true, any-true, any-false}
-use Rattle.theory.specs.Tab.{getD-tab}
-use Rattle.theory.specs.Load.{load}
-use Rattle.theory.specs.Walk.{Against, Falling, Rising, one, rule-6, rule-7, rule-8, rule-9}
-use Rattle.theory.specs.Spare.{sumL, Spares, against-plan}
-use Rattle.theory.specs.Open.{other, other-apart, spareOf}
-use Rattle.theory.specs.Start.{Begins, begun, falling, rising}
-use Rattle.theory.specs.OrderLaws.{heavier-sum, heavier-down, lighter-sum, lighter-up}
+use Rattle.theory.proofs.TestLaws.{and-true, any-true, any-false}
+use Rattle.theory.proofs.TabLaws.{getD-tab}
+use Rattle.theory.proofs.LoadLaws.{load}
+use Rattle.theory.proofs.WalkLaws.{Against, Falling, Rising, one, rule-6, rule-7, rule-8, rule-9}
+use Rattle.theory.proofs.Spare.{sumL, Spares, against-plan}
+use Rattle.theory.proofs.Open.{other, other-apart, spareOf}
+use Rattle.theory.proofs.Start.{Begins, begun, falling, rising}
+use Rattle.theory.proofs.OrderLaws.{heavier-sum, heavier-down, lighter-sum, lighter-up}
 use Rattle.year.specs.Year.{courseAt, weight, lowCredits, highCredits, lowCount, highCount}
 use Rattle.year.specs.Sums.{fixedCredits, fixedCount, openCount}
 use Rattle.year.specs.Plans.{Placing, creditsIn, countIn, Plan}
@@ -26,7 +26,7 @@ use Rattle.year.specs.declared.Year.{Year}
 use Rattle.rules.specs.Step.{put}
 use Rattle.rules.specs.Spares.{spare, spares, blocks, blocked, less, charged, table, openAt, openOf, down, up, walkOf, rule6, rule7, rule8, rule9}
 use Rattle.rules.specs.declared.Until.the-variants as until
-use Rattle.rules.proofs.Kept.{Kept}
+use Rattle.rules.proofs.PlansKept.{PlansKept}
 use Rattle.rules.proofs.OutcomeKept.{credits-kept, counts-kept}
 use Rattle.rules.proofs.Reading.{listsAt, fixedAt, alone, ins, fix}
 
@@ -106,7 +106,7 @@ module _ (y : Year) (j : ℕ) (s : Sound y) (p : Placing) (h : Plan y p) where
 -- ---- the four rules
 
 module _ (y : Year) (j : ℕ) (s : Sound y) (l : j < y .terms) where
-  pub rule6-kept : Kept y (put y j (rule6 y j))
+  pub rule6-kept : PlansKept y (put y j (rule6 y j))
   unfolding rule6 walkOf
   rule6-kept =
       let w = walkOf y j (until.Credits (lowCredits y j)) (down y) in
@@ -115,14 +115,14 @@ module _ (y : Year) (j : ℕ) (s : Sound y) (l : j < y .terms) where
       let r = rule-6 _ _ _ _ _ (lowCredits y j) _ _ _ _ (h .credits-low j l) (fixed-le y j s p h) (falls y j s p h) in
       (le-ltb (w .credits) (lowCredits y j) (r .1), r .0, h .count-high j l))
 
-  pub rule7-kept : Kept y (put y j (rule7 y j))
+  pub rule7-kept : PlansKept y (put y j (rule7 y j))
   unfolding rule7 walkOf
   rule7-kept =
       let w = walkOf y j (until.Past (highCredits y j)) (up y) in
       counts-kept y j (lowCount y j) (w .count) 7 false s l (λ e. omega arith)
       (λ p h. (refl, h .count-low j l, rule-7 _ _ _ _ _ (highCredits y j) _ _ _ _ (h .credits-high j l) (rises y j s p h)))
 
-  pub rule8-kept : Kept y (put y j (rule8 y j))
+  pub rule8-kept : PlansKept y (put y j (rule8 y j))
   unfolding rule8 walkOf
   rule8-kept =
       let w = walkOf y j (until.Count (lowCount y j)) (up y) in
@@ -131,7 +131,7 @@ module _ (y : Year) (j : ℕ) (s : Sound y) (l : j < y .terms) where
       let r = rule-8 _ _ _ _ _ (lowCount y j) _ _ _ _ (h .count-low j l) (fixed-le y j s p h) (rises y j s p h) in
       (le-ltb (w .count) (lowCount y j) (r .1), r .0, h .credits-high j l))
 
-  pub rule9-kept : Kept y (put y j (rule9 y j))
+  pub rule9-kept : PlansKept y (put y j (rule9 y j))
   unfolding rule9 walkOf
   rule9-kept =
       let w = walkOf y j (until.Count (highCount y j)) (down y) in

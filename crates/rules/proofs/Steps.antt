@@ -1,4 +1,4 @@
--- Every step of the eleven rules leaves a whole year: there are two kinds, one on a term's bounds and one on a course's list.
+-- Every step of the eleven rules leaves a narrows year: there are two kinds, one on a term's bounds and one on a course's list.
 use Prim.Native.Nat.{ℕ, _+_, _-_, _/_, _^_, _≤_, _<_, max, min}
 use mathlib.Core.Bool.{Bool, true, false, not, _||_, true≢false}
 use mathlib.Core.Path.{_≡_, refl, sym, ap, _∙_}
@@ -8,10 +8,13 @@ use native.Mathlib.Decide.{ℕ-discrete}
 use lib.Dec.{eqb, ltb}
 use lib.Seq.{set-getD}
 use borrow.Author.Tests.{eqb-true, eq-eqb, ltb-true, ltb-false}
-use Rattle.theory.specs.Choice.{choose-case, choose-any}
-use Rattle.theory.specs.Sum.{pick, sum-change}
-use Rattle.theory.specs.Tests.{any, and-true, or-false}
-use Rattle.theory.specs.Bits.{has, has-struck, has-power, power-below}
+use Rattle.theory.proofs.ChoiceLaws.{choose-case, choose-any}
+use Rattle.theory.specs.Sum.{pick}
+use Rattle.theory.proofs.SumLaws.{sum-change}
+use Rattle.theory.specs.Tests.{any}
+use Rattle.theory.proofs.TestLaws.{and-true, or-false}
+use Rattle.theory.specs.Bits.{has}
+use Rattle.theory.proofs.BitLaws.{has-struck, has-power, power-below}
 use Rattle.year.specs.Year.{termOf, zeroTerm, termAt, courseAt, list, lists, isFixed, isOpen, lowCredits, highCredits, lowCount, highCount, withTerm, withList, placed, struck}
 use Rattle.year.specs.Sums.{fixedCount, openCount}
 use Rattle.year.specs.Sound.{Sound, TermSound}
@@ -20,17 +23,16 @@ use Rattle.year.specs.declared.Term.{Term}
 use Rattle.year.specs.declared.Course.{Course}
 use Rattle.year.specs.declared.Year.{Year}
 use Rattle.year.proofs.DoorLaws.{term-same, term-other, with-term-sound, course-same, course-other, weight-same, placed-sound, struck-sound}
-use Rattle.rules.specs.Step.{step, live, dead, outcome, put, judged, overTerms}
+use Rattle.rules.specs.Step.{step, live, dead, outcome, put, judged, overTerms, Step}
 use Rattle.rules.specs.Bounds.{rule1, rule2, rule4, rule5}
 use Rattle.rules.specs.Lists.{verdict3, rule3Course, rule3, full, needed, verdict10, rule10Course, rule10}
 use Rattle.rules.specs.Spares.{rule6, rule7, rule8, rule9}
 use Rattle.rules.specs.Packing.{burst, room, bursts, rule11}
-use Rattle.rules.specs.declared.Step.{Step}
 use Rattle.rules.specs.declared.Outcome.{Outcome}
 use Rattle.rules.specs.declared.Verdict.{Verdict}
 use Rattle.rules.specs.declared.Verdict.the-variants.{Stays, Struck, Fixed}
-use Rattle.rules.proofs.Measure.{slack, slackAt, choices, choicesAt, measure, choices-struck, choices-placed}
-use Rattle.rules.proofs.Whole.{Whole, whole-rest, whole-over, Lawful}
+use Rattle.rules.proofs.Leeway.{slack, slackAt, choices, choicesAt, leeway, choices-struck, choices-placed}
+use Rattle.rules.proofs.Narrows.{Narrows, narrows-rest, narrows-over, Lawful}
 
 -- ---- bounds
 
@@ -109,9 +111,9 @@ module _ (y : Year) (j : ℕ) (o : Outcome) (s : Sound y) (h : j < y .terms) (w 
       go (yes e) = rw (e, term-same y j (o .term) (omega (arith, s))) new
       go (no ne) = rw (term-other y j (o .term) k ne) old
 
-  measure-falls : measure (withTerm y j (o .term)) + pick (o .altered) 1 ≤ measure y
-  unfolding measure
-  measure-falls =
+  leeway-falls : leeway (withTerm y j (o .term)) + pick (o .altered) 1 ≤ leeway y
+  unfolding leeway
+  leeway-falls =
       let new : slackAt (withTerm y j (o .term)) j ≡ slack (o .term) = ap slack (term-same y j (o .term) (omega (arith, s))) in
       omega (
         arith,
@@ -119,8 +121,8 @@ module _ (y : Year) (j : ℕ) (o : Outcome) (s : Sound y) (h : j < y .terms) (w 
         sum-change (y .terms) j (slackAt (withTerm y j (o .term))) (slackAt y) h (λ k m ne. ap slack (term-other y j (o .term) k ne)),
       )
 
-  pub whole-put : Whole y (put y j o)
-  whole-put = record {
+  pub narrows-put : Narrows y (put y j o)
+  narrows-put = record {
     year = record {
       sound = with-term-sound y j (o .term) s h (w .sound);
       terms-same = refl;
@@ -132,7 +134,7 @@ module _ (y : Year) (j : ℕ) (o : Outcome) (s : Sound y) (h : j < y .terms) (w 
       high-count = λ k. at k (λ t u. u .most .0 ≤ t .most .0) (w .most) (le-refl (highCount y k));
       lists-less = λ i k e. e;
     };
-    falls = measure-falls;
+    falls = leeway-falls;
     still = λ e. ap (withTerm y j) (w .still e) ∙ with-own y j;
   }
 
@@ -141,8 +143,8 @@ module _ (y : Year) (j : ℕ) (o : Outcome) (s : Sound y) (h : j < y .terms) (w 
 -- course i, open in j, with a list l that names no more terms and leaves fewer choices
 module _ (y : Year) (i l : ℕ) (s : Sound y) (h : i < y .courses) (sound : Sound (withList y i l))
     (less : (k : ℕ) → has l k ≡ true → lists (courseAt y i) k ≡ true) (fewer : choices l + 1 ≤ choices (list y i)) where
-  list-falls : measure (withList y i l) + 1 ≤ measure y
-  unfolding measure
+  list-falls : leeway (withList y i l) + 1 ≤ leeway y
+  unfolding leeway
   list-falls =
       let new : choicesAt (withList y i l) i ≡ choices l = ap (λ (c : Course). choices (c .list)) (course-same y i l (omega (arith, s))) in
       omega (
@@ -151,8 +153,8 @@ module _ (y : Year) (i l : ℕ) (s : Sound y) (h : i < y .courses) (sound : Soun
         sum-change (y .courses) i (choicesAt (withList y i l)) (choicesAt y) h (λ k m ne. ap (λ (c : Course). choices (c .list)) (course-other y i l k ne)),
       )
 
-  pub whole-list : Whole y (step (withList y i l) true 0)
-  whole-list = record {
+  pub narrows-list : Narrows y (step (withList y i l) true 0)
+  narrows-list = record {
     year = record {
       sound = sound;
       terms-same = refl;
@@ -186,27 +188,27 @@ module _ (y : Year) (i j : ℕ) (s : Sound y) (h : i < y .courses) (l : j < y .t
       go (yes q) = rw q at (s .course-sound i h .list-within)
       go (no d) = let m : y .terms < 16 = omega (arith, s, d) in omega (arith, power-below (y .terms) 16 m, s .course-sound i h .list-within)
 
-  pub whole-struck : Whole y (step (struck y i j) true 0)
-  whole-struck =
-      whole-list y i (list y i - 2 ^ j) s h (struck-sound y i j s h is-listed not-alone)
+  pub narrows-struck : Narrows y (step (struck y i j) true 0)
+  narrows-struck =
+      narrows-list y i (list y i - 2 ^ j) s h (struck-sound y i j s h is-listed not-alone)
       (λ k q. and-true (lists (courseAt y i) k) (not (eqb k j)) (sym (has-struck (list y i) j k is-listed) ∙ q) .0)
       (choices-struck (list y i) j (omega (arith, s)) small is-listed not-alone)
 
-  pub whole-placed : Whole y (step (placed y i j) true 0)
-  whole-placed =
-      whole-list y i (2 ^ j) s h (placed-sound y i j s h l)
+  pub narrows-placed : Narrows y (step (placed y i j) true 0)
+  narrows-placed =
+      narrows-list y i (2 ^ j) s h (placed-sound y i j s h l)
       (λ k q. let r : k ≡ j = eqb-true k j (sym (has-power j k) ∙ q) in rw r is-listed)
       (choices-placed (list y i) j (omega (arith, s)) small is-listed not-alone)
 
 -- a verdict on a course that is not open leaves it
-whole-judged : (y : Year) (i j : ℕ) (v : Verdict) → Sound y → i < y .courses → j < y .terms → (isOpen (courseAt y i) j ≡ false → v ≡ Stays) → Whole y (judged y i j v)
-whole-judged y i j Stays s h l e = whole-rest y 0 s
-whole-judged y i j Struck s h l e = whole-struck y i j s h l (open-of (isOpen (courseAt y i) j) refl e)
+narrows-judged : (y : Year) (i j : ℕ) (v : Verdict) → Sound y → i < y .courses → j < y .terms → (isOpen (courseAt y i) j ≡ false → v ≡ Stays) → Narrows y (judged y i j v)
+narrows-judged y i j Stays s h l e = narrows-rest y 0 s
+narrows-judged y i j Struck s h l e = narrows-struck y i j s h l (open-of (isOpen (courseAt y i) j) refl e)
   where
     open-of : (b : Bool) → isOpen (courseAt y i) j ≡ b → (isOpen (courseAt y i) j ≡ false → Struck ≡ Stays) → isOpen (courseAt y i) j ≡ true
     open-of true q k = q
     open-of false q k = let z : Struck ≡ Stays = k q in absurd (let d : _≡_ {A = ℕ} 0 1 = cc in omega arith)
-whole-judged y i j Fixed s h l e = whole-placed y i j s h l (open-of (isOpen (courseAt y i) j) refl e)
+narrows-judged y i j Fixed s h l e = narrows-placed y i j s h l (open-of (isOpen (courseAt y i) j) refl e)
   where
     open-of : (b : Bool) → isOpen (courseAt y i) j ≡ b → (isOpen (courseAt y i) j ≡ false → Fixed ≡ Stays) → isOpen (courseAt y i) j ≡ true
     open-of true q k = q
@@ -218,37 +220,37 @@ module _ (y : Year) (j : ℕ) (s : Sound y) (h : j < y .terms) where
   abbrev t : Term
   t = termAt y j
 
-  pub whole-1 : Whole y (put y j (rule1 y j))
+  pub narrows-1 : Narrows y (put y j (rule1 y j))
   unfolding rule1
-  whole-1 = whole-put y j (rule1 y j) s h (credits-tighter 1 _ t _ _ (s .term-sound j h))
+  narrows-1 = narrows-put y j (rule1 y j) s h (credits-tighter 1 _ t _ _ (s .term-sound j h))
 
-  pub whole-2 : Whole y (put y j (rule2 y j))
+  pub narrows-2 : Narrows y (put y j (rule2 y j))
   unfolding rule2
-  whole-2 = whole-put y j (rule2 y j) s h (credits-tighter 2 _ t _ _ (s .term-sound j h))
+  narrows-2 = narrows-put y j (rule2 y j) s h (credits-tighter 2 _ t _ _ (s .term-sound j h))
 
-  pub whole-4 : Whole y (put y j (rule4 y j))
+  pub narrows-4 : Narrows y (put y j (rule4 y j))
   unfolding rule4
-  whole-4 = whole-put y j (rule4 y j) s h (counts-tighter 4 _ t _ _ (s .term-sound j h))
+  narrows-4 = narrows-put y j (rule4 y j) s h (counts-tighter 4 _ t _ _ (s .term-sound j h))
 
-  pub whole-5 : Whole y (put y j (rule5 y j))
+  pub narrows-5 : Narrows y (put y j (rule5 y j))
   unfolding rule5
-  whole-5 = whole-put y j (rule5 y j) s h (counts-tighter 5 _ t _ _ (s .term-sound j h))
+  narrows-5 = narrows-put y j (rule5 y j) s h (counts-tighter 5 _ t _ _ (s .term-sound j h))
 
-  pub whole-6 : Whole y (put y j (rule6 y j))
+  pub narrows-6 : Narrows y (put y j (rule6 y j))
   unfolding rule6
-  whole-6 = whole-put y j (rule6 y j) s h (counts-tighter 6 _ t _ _ (s .term-sound j h))
+  narrows-6 = narrows-put y j (rule6 y j) s h (counts-tighter 6 _ t _ _ (s .term-sound j h))
 
-  pub whole-7 : Whole y (put y j (rule7 y j))
+  pub narrows-7 : Narrows y (put y j (rule7 y j))
   unfolding rule7
-  whole-7 = whole-put y j (rule7 y j) s h (counts-tighter 7 _ t _ _ (s .term-sound j h))
+  narrows-7 = narrows-put y j (rule7 y j) s h (counts-tighter 7 _ t _ _ (s .term-sound j h))
 
-  pub whole-8 : Whole y (put y j (rule8 y j))
+  pub narrows-8 : Narrows y (put y j (rule8 y j))
   unfolding rule8
-  whole-8 = whole-put y j (rule8 y j) s h (credits-tighter 8 _ t _ _ (s .term-sound j h))
+  narrows-8 = narrows-put y j (rule8 y j) s h (credits-tighter 8 _ t _ _ (s .term-sound j h))
 
-  pub whole-9 : Whole y (put y j (rule9 y j))
+  pub narrows-9 : Narrows y (put y j (rule9 y j))
   unfolding rule9
-  whole-9 = whole-put y j (rule9 y j) s h (credits-tighter 9 _ t _ _ (s .term-sound j h))
+  narrows-9 = narrows-put y j (rule9 y j) s h (credits-tighter 9 _ t _ _ (s .term-sound j h))
 
 -- rules 3 and 10: course by course
 verdict3-open : (c : Course) (t : Term) (p P j : ℕ) → isOpen c j ≡ false → verdict3 c t p P j ≡ Stays
@@ -262,34 +264,34 @@ verdict10-open f n c j e = rw e
 pub lawful-3 : (terms courses j : ℕ) → j < terms → Lawful terms courses (rule3Course j) courses
 unfolding rule3Course
 lawful-3 terms courses j l z i s t c h =
-    whole-judged z i j _ s (omega arith) (omega arith) (verdict3-open (courseAt z i) (termAt z j) _ _ j)
+    narrows-judged z i j _ s (omega arith) (omega arith) (verdict3-open (courseAt z i) (termAt z j) _ _ j)
 
 pub lawful-10 : (terms courses j : ℕ) (f n : Bool) → j < terms → Lawful terms courses (rule10Course f n j) courses
 unfolding rule10Course
-lawful-10 terms courses j f n l z i s t c h = whole-judged z i j _ s (omega arith) (omega arith) (verdict10-open f n (courseAt z i) j)
+lawful-10 terms courses j f n l z i s t c h = narrows-judged z i j _ s (omega arith) (omega arith) (verdict10-open f n (courseAt z i) j)
 
 module _ (y : Year) (j : ℕ) (s : Sound y) (h : j < y .terms) where
-  pub whole-3 : Whole y (rule3 y j)
+  pub narrows-3 : Narrows y (rule3 y j)
   unfolding rule3
-  whole-3 = whole-over (rule3Course j) (y .courses) y (live y) (lawful-3 (y .terms) (y .courses) j h) (whole-rest y 0 s) (y .courses) (le-refl (y .courses))
+  narrows-3 = narrows-over (rule3Course j) (y .courses) y (live y) (lawful-3 (y .terms) (y .courses) j h) (narrows-rest y 0 s) (y .courses) (le-refl (y .courses))
 
-  pub whole-10 : Whole y (rule10 y j)
+  pub narrows-10 : Narrows y (rule10 y j)
   unfolding rule10
-  whole-10 =
-      choose-case (Whole y) (ltb (highCount y j) (fixedCount y j) || ltb (fixedCount y j + openCount y j) (lowCount y j)) (dead 10 y) _
-      (λ e. whole-rest y 10 s)
-      (λ e. whole-over (rule10Course (full y j) (needed y j) j) (y .courses) y (live y) (lawful-10 (y .terms) (y .courses) j (full y j) (needed y j) h) (whole-rest y 0 s) (y .courses) (le-refl (y .courses)))
+  narrows-10 =
+      choose-case (Narrows y) (ltb (highCount y j) (fixedCount y j) || ltb (fixedCount y j + openCount y j) (lowCount y j)) (dead 10 y) _
+      (λ e. narrows-rest y 10 s)
+      (λ e. narrows-over (rule10Course (full y j) (needed y j) j) (y .courses) y (live y) (lawful-10 (y .terms) (y .courses) j (full y j) (needed y j) h) (narrows-rest y 0 s) (y .courses) (le-refl (y .courses)))
 
-pub whole-11 : (y : Year) → Sound y → Whole y (rule11 y)
+pub narrows-11 : (y : Year) → Sound y → Narrows y (rule11 y)
 unfolding rule11
-whole-11 y s =
-    choose-any (Whole y) (any (y .terms) (burst y)) (dead 11 y) _ (whole-rest y 11 s)
-    (choose-any (Whole y) (eqb (room y) 0) (live y) _ (whole-rest y 0 s)
-    (choose-any (Whole y) (any (room y / 2 + 1) (bursts y (room y))) (dead 11 y) (live y) (whole-rest y 11 s) (whole-rest y 0 s)))
+narrows-11 y s =
+    choose-any (Narrows y) (any (y .terms) (burst y)) (dead 11 y) _ (narrows-rest y 11 s)
+    (choose-any (Narrows y) (eqb (room y) 0) (live y) _ (narrows-rest y 0 s)
+    (choose-any (Narrows y) (any (room y / 2 + 1) (bursts y (room y))) (dead 11 y) (live y) (narrows-rest y 11 s) (narrows-rest y 0 s)))
 
 -- ---- over the terms
 
 -- a rule over the terms of the year that the rules before it left
-pub whole-terms : (f : Year → ℕ → Step) (y : Year) (s : Step) → ((z : Year) (j : ℕ) → Sound z → j < z .terms → Whole z (f z j)) → Whole y s → Whole y (overTerms f s)
-whole-terms f y s law a =
-    whole-over f (y .terms) y s (λ z k b t c l. law z k b (omega arith)) a (s .year .terms) (le-of-eq (a .year .terms-same))
+pub narrows-terms : (f : Year → ℕ → Step) (y : Year) (s : Step) → ((z : Year) (j : ℕ) → Sound z → j < z .terms → Narrows z (f z j)) → Narrows y s → Narrows y (overTerms f s)
+narrows-terms f y s law a =
+    narrows-over f (y .terms) y s (λ z k b t c l. law z k b (omega arith)) a (s .year .terms) (le-of-eq (a .year .terms-same))

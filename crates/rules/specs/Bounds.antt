@@ -2,7 +2,7 @@
 use Prim.Native.Nat.{ℕ, _+_, _-_}
 use mathlib.Core.Bool.{false}
 use lib.Dec.{ltb}
-use Rattle.theory.specs.Load.{others}
+use Rattle.theory.specs.Others.{others}
 use Rattle.year.specs.Year.{termAt, lowCredits, highCredits, lowCount, highCount}
 use Rattle.year.specs.Sums.{fixedCredits, possibleCredits, fixedCount, openCount, allCredits, allCourses}
 use Rattle.year.specs.Tight.{creditsWithin, countsWithin}

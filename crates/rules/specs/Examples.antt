@@ -3,6 +3,7 @@ use Prim.Native.Nat.{ℕ, _+_, _/_}
 use mathlib.Core.List.{List, [], _∷_, _++_}
 use mathlib.Core.Path.{_≡_, refl}
 use lib.ListN.{length, replicate, take}
+use Rattle.theory.specs.Fold.{fold}
 use Rattle.theory.specs.Sum.{sum}
 use Rattle.theory.specs.Tests.{any}
 use Rattle.theory.specs.Tab.{tab}
@@ -12,11 +13,11 @@ use Rattle.theory.specs.Packing.{share}
 use Rattle.year.specs.Year.{termOf, courseOf, zeroTerm, zeroCourse, list}
 use Rattle.year.specs.Sums.{fixedCredits, openCredits, fixedCount, openCount, isPlaced}
 use Rattle.year.specs.Tight.{countsWithin}
-use Rattle.year.specs.Imbalance.{largest}
+use Rattle.theory.specs.Largest.{largest}
 use Rattle.year.specs.declared.Term.{Term}
 use Rattle.year.specs.declared.Course.{Course}
 use Rattle.year.specs.declared.Year.{Year}
-use Rattle.rules.specs.Step.{outcome, overTo}
+use Rattle.rules.specs.Step.{outcome}
 use Rattle.rules.specs.Lists.{verdict3, rule3Course, rule3}
 use Rattle.rules.specs.Spares.{spares, blocked, charged, walkOf, down, up, rule6, rule7}
 use Rattle.rules.specs.Packing.{room, shares, roundedUp}
@@ -80,7 +81,7 @@ row9 = refl
 
 -- rule 3 on courses of 4 and 3, credits 4 to 5: the first is fixed, and with the p that follows the second is struck
 early : list (rule3 (yearOf (termOf 4 5 0 2 ∷ termOf 0 9 0 2 ∷ []) (courseOf 4 3 ∷ courseOf 3 3 ∷ [])) 0 .year) 1 ≡ 2
-unfolding sum fixedCredits openCredits overTo verdict3 rule3Course rule3
+unfolding sum fixedCredits openCredits fold verdict3 rule3Course rule3
 early = refl
 
 -- rule 7 passes a course that term 1 cannot spare and counts the one behind it

@@ -8,8 +8,7 @@ use Rattle.year.specs.Sums.{fixedCredits, possibleCredits, fixedCount, openCoun
 use Rattle.year.specs.declared.Term.{Term}
 use Rattle.year.specs.declared.Course.{Course}
 use Rattle.year.specs.declared.Year.{Year}
-use Rattle.rules.specs.Step.{live, dead, judged, overCourses}
-use Rattle.rules.specs.declared.Step.{Step}
+use Rattle.rules.specs.Step.{live, dead, judged, overCourses, Step}
 use Rattle.rules.specs.declared.Verdict.{Verdict}
 use Rattle.rules.specs.declared.Verdict.the-variants.{Stays, Struck, Fixed}
 

@@ -8,10 +8,9 @@ use Rattle.theory.specs.Tests.{any}
 use Rattle.theory.specs.Packing.{share}
 use Rattle.year.specs.Year.{weight, highCredits}
 use Rattle.year.specs.Sums.{fixedCredits, placedAt}
-use Rattle.year.specs.Imbalance.{largest}
+use Rattle.theory.specs.Largest.{largest}
 use Rattle.year.specs.declared.Year.{Year}
-use Rattle.rules.specs.Step.{live, dead}
-use Rattle.rules.specs.declared.Step.{Step}
+use Rattle.rules.specs.Step.{live, dead, Step}
 
 -- p exceeds high credits in term k
 abbrev pub burst : Year → ℕ → Bool

@@ -3,12 +3,11 @@ use Prim.Native.Nat.{ℕ, _+_, _-_}
 use mathlib.Core.List.{List, [], _∷_}
 use lib.ListN.{take, drop}
 use Rattle.year.specs.declared.Year.{Year}
-use Rattle.rules.specs.Step.{live, put, next, overTerms}
+use Rattle.rules.specs.Step.{live, put, next, overTerms, Step}
 use Rattle.rules.specs.Bounds.{rule1, rule2, rule4, rule5}
 use Rattle.rules.specs.Lists.{rule3, rule10}
 use Rattle.rules.specs.Spares.{rule6, rule7, rule8, rule9}
 use Rattle.rules.specs.Packing.{rule11}
-use Rattle.rules.specs.declared.Step.{Step}
 use Rattle.rules.specs.declared.Outcome.{Outcome}
 
 -- a rule on bounds, at a term

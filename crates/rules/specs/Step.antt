@@ -1,25 +1,24 @@
 -- Steps of rules. Every step sees the year left by the step before, and a step that finds no plan is the last.
-use Prim.Native.Nat.{ℕ, zero, suc, _+_}
+use Prim.Native.Nat.{ℕ}
 use mathlib.Core.Bool.{Bool, true, false, _||_}
-use mathlib.Core.List.{List}
-use mathlib.Core.Path.{_≡_}
-use native.Mathlib.Numerals.{add-one}
 use lib.Dec.{eqb}
 use Rattle.theory.specs.Choice.{choose}
-use Rattle.theory.specs.Tab.{tab}
+use Rattle.theory.specs.Fold.{fold}
 use Rattle.year.specs.Year.{withTerm, placed, struck}
-use Rattle.year.specs.Sums.{sumsAt}
-use Rattle.year.specs.Parts.{listsOf, yearFrom}
 use Rattle.year.specs.declared.Term.{Term}
 use Rattle.year.specs.declared.Tight.{Tight}
 use Rattle.year.specs.declared.Year.{Year}
-use Rattle.rules.specs.declared.Step.{Step}
-use Rattle.rules.specs.declared.State.{State}
 use Rattle.rules.specs.declared.Outcome.{Outcome}
 use Rattle.rules.specs.declared.Verdict.{Verdict}
 use Rattle.rules.specs.declared.Verdict.the-variants.{Stays, Struck, Fixed}
 
 -- ---- one step
+
+-- what a step leaves: the year, whether something was altered, and the rule that found no plan (0 where none did)
+pub record Step : Type 0 where
+  pub year : Year
+  pub altered : Bool
+  pub rule : ℕ
 
 abbrev pub step : Year → Bool → ℕ → Step
 step y a r = record { year = y; altered = a; rule = r }
@@ -54,14 +53,25 @@ judged y i j Fixed = step (placed y i j) true 0
 
 -- ---- steps in a row
 
+-- no plan has been found so far
+abbrev pub goes : Step → Bool
+goes s = eqb (s .rule) 0
+
+-- one step after another; what either altered is altered
+abbrev pub joined : Step → Step → Step
+joined s t = step (t .year) (s .altered || t .altered) (t .rule)
+
+-- a rule at k, of the year that the steps before it left
+abbrev pub then : (Year → ℕ → Step) → Step → ℕ → Step
+then f s k = joined s (f (s .year) k)
+
 -- one step more, at k, unless a step before it found no plan
 abbrev pub next : (Year → ℕ → Step) → Step → ℕ → Step
-next f s k = choose (eqb (s .rule) 0) (step (f (s .year) k .year) (s .altered || f (s .year) k .altered) (f (s .year) k .rule)) s
+next f s k = choose (goes s) (then f s k) s
 
 -- the steps at 0, 1 and so on below n
-unfoldable pub overTo : (Year → ℕ → Step) → Step → ℕ → Step
-overTo f s zero = s
-overTo f s (suc k) = next f (overTo f s k) k
+abbrev pub overTo : (Year → ℕ → Step) → Step → ℕ → Step
+overTo f s n = fold goes (then f) s n
 
 -- over all terms of the year, and over all its courses
 abbrev pub overTerms : (Year → ℕ → Step) → Step → Step
@@ -69,26 +79,3 @@ overTerms f s = overTo f s (s .year .terms)
 
 abbrev pub overCourses : (Year → ℕ → Step) → Step → Step
 overCourses f s = overTo f s (s .year .courses)
-
-pub over-more : (f : Year → ℕ → Step) (s : Step) (k : ℕ) → overTo f s (k + 1) ≡ next f (overTo f s k) k
-unfolding overTo
-over-more f s k = rw add-one
-
--- ---- the same as the code carries it: in parts, beside the sums, and without the weights w
-
-abbrev pub held : Step → State
-held p = record {
-  terms = p .year .terms;
-  courses = p .year .courses;
-  term = p .year .term;
-  list = listsOf (p .year);
-  sums = tab 16 (sumsAt (p .year));
-  altered = p .altered;
-  rule = p .rule;
-}
-
-abbrev pub yearIn : List ℕ → State → Year
-yearIn w s = yearFrom (s .terms) (s .courses) (s .term) w (s .list)
-
-abbrev pub stepIn : List ℕ → State → Step
-stepIn w s = step (yearIn w s) (s .altered) (s .rule)

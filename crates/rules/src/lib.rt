@@ -1,26 +1,5 @@
-// The eleven rules: one round of filtering, rule by rule.
-use year::Sums;
+// What the eleven rules decide, as definitions and code share it.
 use year::Term;
-use year::Year;
-
-// A year on its way through the rules, but for the weights, which never change: its sizes, bounds and lists, the sums of
-// its terms, whether something was altered, and the rule that found no plan (0 while none has).
-pub struct State {
-    pub terms: usize,
-    pub courses: usize,
-    pub term: [Term; 16],
-    pub list: [u16; 64],
-    pub sums: [Sums; 16],
-    pub altered: bool,
-    pub rule: u32,
-}
-
-// What a step of a rule leaves: the year, whether it was altered, and the rule if it found no plan.
-pub struct Step {
-    pub year: Year,
-    pub altered: bool,
-    pub rule: u32,
-}
 
 // A term after a rule was run on its bounds.
 pub struct Outcome {

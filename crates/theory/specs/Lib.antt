@@ -1,15 +1,12 @@
--- The theory, from choices and sums up.
+-- To be believed: the words that the rules' definitions are written in. What is proved of them is in proofs/.
 pub mod Choice
 pub mod Sum
+pub mod Others
+pub mod Largest
 pub mod Tests
 pub mod Tab
 pub mod Bits
-pub mod Load
-pub mod Counting
+pub mod Fold
 pub mod Order
 pub mod Walk
-pub mod Spare
-pub mod Open
-pub mod Start
-pub mod OrderLaws
 pub mod Packing

@@ -14,8 +14,14 @@ ghost use lib.ListN.{length, getD};
 ghost use Rattle.theory.specs.Tab.{tab};
 ghost use Rattle.year.specs.Year.{isFixed, isOpen};
 ghost use Rattle.year.specs.Sound.{Sound};
-ghost use Rattle.year.specs.Parts.{bare};
+ghost use Rattle.totals.specs.Parts.{bare};
 ghost use Rattle.year.specs.Sums.{sumsTo, sumsAt, isPlaced, allPlaced, allCredits, noSums, sumsWith};
+
+// The courses of a year in two arrays.
+pub struct Columns {
+    pub weight: [u32; Year::COURSES],
+    pub list: [u16; Year::COURSES],
+}
 
 // Term j is the course's only one.
 pub fn is_fixed(c: Course, j: usize) -> bool

@@ -9,7 +9,8 @@ ghost use Rattle.theory.specs.Tab.{tab};
 ghost use Rattle.theory.specs.Tests.{all};
 ghost use Rattle.year.specs.Sound.{Sound};
 ghost use Rattle.year.specs.Sums.{fixedCredits, sumsAt};
-ghost use Rattle.year.specs.Imbalance.{fits, fitsAt, largest, smallest, imbalanceOf};
+ghost use Rattle.year.specs.Imbalance.{fits, fitsAt, imbalanceOf};
+ghost use Rattle.theory.specs.Largest.{largest, smallest};
 
 // The sums are within the term's bounds.
 fn fits(t: Term, s: Sums) -> bool

@@ -1,5 +1,5 @@
 // A year's courses in two arrays, one of weights and one of lists: these are lent whole, where a year would be copied.
-use year::Columns;
+use crate::Columns;
 use year::Course;
 use year::Credits;
 use year::Year;
@@ -8,7 +8,7 @@ ghost use Prim.Native.Nat.{ℕ, _≤_, _<_};
 ghost use lib.ListN.{length};
 ghost use Rattle.year.specs.Year.{zeroCourse};
 ghost use Rattle.year.specs.Sound.{Sound};
-ghost use Rattle.year.specs.Parts.{columnsOf, courseFrom, coursesFrom};
+ghost use Rattle.totals.specs.Parts.{columnsOf, courseFrom, coursesFrom};
 
 // The year's courses, apart: all entries are 0 past the last.
 pub fn apart(y: Year) -> Columns

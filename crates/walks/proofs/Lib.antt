@@ -1,5 +1,4 @@
 -- Laws for the proofs of the code, and for those who call it.
-pub mod OrderLaws
 pub mod SparingLaws
 pub mod WalkLaws
 pub mod WalkStages

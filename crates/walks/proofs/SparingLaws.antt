@@ -10,8 +10,9 @@ use lib.Seq.{getD-set-same, getD-set-other}
 use borrow.Author.Tests.{eqb-true, eqb-false}
 use Rattle.theory.specs.Sum.{pick}
 use Rattle.theory.specs.Tests.{any}
-use Rattle.theory.specs.Tab.{tab, tab-cong, set-tab}
-use Rattle.theory.specs.Bits.{has-struck}
+use Rattle.theory.specs.Tab.{tab}
+use Rattle.theory.proofs.TabLaws.{tab-cong, set-tab}
+use Rattle.theory.proofs.BitLaws.{has-struck}
 use Rattle.year.specs.Year.{zeroTerm, lists, lowCount}
 use Rattle.year.specs.Sums.{sumsAt, fixedCount, openCount}
 use Rattle.year.specs.declared.Course.{Course}
@@ -19,7 +20,7 @@ use Rattle.year.specs.declared.Sums.{Sums}
 use Rattle.year.specs.declared.Term.{Term}
 use Rattle.year.specs.declared.Year.{Year}
 use Rattle.year.proofs.SumLaws.{sums-read}
-use Rattle.year.specs.Parts.{sumsIn}
+use Rattle.totals.specs.Parts.{sumsIn}
 use Rattle.rules.specs.Spares.{spare, spares, blocked, charged}
 use Rattle.walks.specs.Sparing.{spareIn, stuck, leftAt}
 

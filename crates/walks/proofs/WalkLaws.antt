@@ -9,19 +9,20 @@ use lib.Dec.{ltb}
 use lib.ListN.{length, getD, take, drop, length-take, drop-of-length-le}
 use lib.Seq.{drop-cons, getD-take}
 use borrow.Author.Tests.{ltb-true, ltb-false, not-true}
-use Rattle.theory.specs.Sum.{pick, sum, sum-term-le}
-use Rattle.theory.specs.Tests.{and-true}
+use Rattle.theory.specs.Sum.{pick, sum}
+use Rattle.theory.proofs.SumLaws.{sum-term-le}
+use Rattle.theory.proofs.TestLaws.{and-true}
 use Rattle.theory.specs.Choice.{choose}
 use Rattle.theory.specs.Order.{keep}
 use Rattle.theory.specs.Walk.{Table, Reached, walk}
 use Rattle.rules.specs.Spares.{blocked, charged, stops}
 use Rattle.rules.specs.declared.Until.{Until}
 use Rattle.year.specs.Sums.{fixedWeight, fixedOne, openOne, sumsTo}
-use Rattle.year.specs.Parts.{bare, coursesFrom}
+use Rattle.totals.specs.Parts.{bare, coursesFrom}
 use Rattle.year.specs.declared.Course.{Course}
 use Rattle.year.specs.declared.Sums.{Sums}
 use Rattle.year.proofs.SumLaws.{weights-to, possible-to, counts-to}
-use Rattle.year.proofs.PartLaws.{course-in}
+use Rattle.totals.proofs.PartLaws.{course-in}
 use Rattle.walks.specs.Walking.{walkAs, stepped, courseIn, weightIn, openIn, tableIn, walkOver, reached}
 use Rattle.walks.specs.declared.Walk.{Walk}
 

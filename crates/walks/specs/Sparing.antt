@@ -8,8 +8,7 @@ use Rattle.theory.specs.Sum.{pick}
 use Rattle.theory.specs.Bits.{has}
 use Rattle.year.specs.declared.Term.{Term}
 use Rattle.year.specs.declared.Sums.{Sums}
-use Rattle.year.specs.Parts.{sumsIn}
-use Rattle.bounds.specs.Near.{leastIn}
+use Rattle.totals.specs.Parts.{sumsIn, leastIn}
 
 -- the open courses of a term less those that its low count still needs
 abbrev pub spareIn : List Term → List Sums → ℕ → ℕ

@@ -13,7 +13,7 @@ use Rattle.year.specs.Tight.{creditsWithin, countsWithin}
 use Rattle.year.specs.declared.Term.{Term}
 use Rattle.year.specs.declared.Course.{Course}
 use Rattle.year.specs.declared.Sums.{Sums}
-use Rattle.year.specs.Parts.{termIn, sumsIn}
+use Rattle.totals.specs.Parts.{termIn, sumsIn}
 use Rattle.rules.specs.Step.{outcome}
 use Rattle.rules.specs.Spares.{blocked, charged, stops}
 use Rattle.rules.specs.declared.Outcome.{Outcome}

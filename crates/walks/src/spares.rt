@@ -6,7 +6,7 @@ ghost use mathlib.Core.Path.{_≡_};
 ghost use Prim.Native.Nat.{ℕ, _-_, _≤_, _<_};
 ghost use Rattle.theory.specs.Tests.{any};
 ghost use Rattle.theory.specs.Tab.{tab};
-ghost use Rattle.year.specs.Parts.{sumsIn};
+ghost use Rattle.totals.specs.Parts.{sumsIn};
 ghost use Rattle.walks.specs.Sparing.{spareIn, stuck, leftAt};
 
 // The open courses of a term less those that its low count still needs.

@@ -1,8 +1,7 @@
 // Rules 6 to 9: one walk over the open courses of a term, with the number of courses that each other term can still spare.
 use crate::Walk;
 use crate::spares;
-use bounds::Bounds;
-use bounds::near;
+use frame::Bounds;
 use rules::Outcome;
 use rules::Until;
 use totals::parts;
@@ -16,9 +15,9 @@ ghost use mathlib.Core.Bool.{false};
 ghost use Prim.Native.Nat.{ℕ, _+_, _≤_, _<_};
 ghost use lib.ListN.{length, getD, take};
 ghost use Rattle.year.specs.Sums.{sumsTo};
-ghost use Rattle.year.specs.Parts.{bare, coursesFrom, sumsIn};
+ghost use Rattle.totals.specs.Parts.{bare, coursesFrom, sumsIn};
 ghost use Rattle.rules.specs.Spares.{stops};
-ghost use Rattle.bounds.specs.Turns.{overFirst};
+ghost use Rattle.frame.specs.Bounds.{boundsOver};
 ghost use Rattle.walks.specs.Walking.{stepped, walkOver, reached, begunOf, untilOf, endedOf, walkedAt};
 
 // The walk ends before a course of this weight.
@@ -119,7 +118,7 @@ fn ended(rule: u32, t: Term, w: Walk) -> Outcome
     ensures { λ r. ⌜ r ≡ endedOf rule t (reached w) ⌝ }
 {
     if rule == 6 {
-        return near::outcome(
+        return frame::outcome(
             6,
             w.credits < t.low.0,
             t,
@@ -127,17 +126,17 @@ fn ended(rule: u32, t: Term, w: Walk) -> Outcome
         );
     }
     if rule == 7 {
-        return near::outcome(7, false, t, tighter::counts_within(t, t.least.0, w.count));
+        return frame::outcome(7, false, t, tighter::counts_within(t, t.least.0, w.count));
     }
     if rule == 8 {
-        return near::outcome(
+        return frame::outcome(
             8,
             w.count < t.least.0,
             t,
             tighter::credits_within(t, w.credits, t.high.0),
         );
     }
-    near::outcome(9, false, t, tighter::credits_within(t, t.low.0, w.credits))
+    frame::outcome(9, false, t, tighter::credits_within(t, t.low.0, w.credits))
 }
 
 // A rule at term t of number j with the sums u: its walk, which is over at once where no course is open, and what it makes of it.
@@ -183,7 +182,7 @@ pub fn walk_rule(
     requires { ⌜ (n ≤ 64) × (n ≤ length (now weight)) × (n ≤ length (now list)) × (n ≤ length (now order)) ⌝ }
     requires { ⌜ ((k : ℕ) → k < n → getD (now order) k 0 < n) × ((i : ℕ) → i < n → getD (now weight) i 0 ≤ 1000) ⌝ }
     requires { ⌜ ((k : ℕ) → k < 16 → sumsIn sums k ≡ sumsTo (bare (now weight) (now list)) k n) ⌝ }
-    ensures { λ r. ⌜ r ≡ overFirst (walkedAt rule sums (coursesFrom (now (weight .entry)) (now (list .entry))) (now (order .entry)) n) b m ⌝ }
+    ensures { λ r. ⌜ r ≡ boundsOver (walkedAt rule sums (coursesFrom (now (weight .entry)) (now (list .entry))) (now (order .entry)) n) b m ⌝ }
 {
     let mut z = b;
     let term = b.term;

@@ -7,7 +7,7 @@ use native.Mathlib.Decide.{ℕ-discrete}
 use lib.ListN.{length, length-set}
 use lib.Seq.{getD-set-same, getD-set-other}
 use lib.Pow.{pow-pos}
-use Rattle.theory.specs.Bits.{has-le, power-below}
+use Rattle.theory.proofs.BitLaws.{has-le, power-below}
 use Rattle.year.specs.Year.{termAt, courseAt, zeroTerm, zeroCourse, courseOf, weight, list, lists, withTerm, withList, placed, struck}
 use Rattle.year.specs.Sound.{Sound, TermSound, CourseSound}
 use Rattle.year.specs.declared.Term.{Term}

@@ -2,5 +2,3 @@
 pub mod SoundLaws
 pub mod DoorLaws
 pub mod SumLaws
-pub mod PartLaws
-pub mod SpreadLaws

@@ -9,7 +9,8 @@ use lib.ListN.{length}
 use lib.Dec.{eqb, leb}
 use lib.Pow.{pow-pos}
 use borrow.Author.Tests.{lt-ltb, le-ltb, leb-true, eqb-true, le-leb, eq-eqb}
-use Rattle.theory.specs.Tests.{all, all-at, all-of, and-true, and-of}
+use Rattle.theory.specs.Tests.{all}
+use Rattle.theory.proofs.TestLaws.{all-at, all-of, and-true, and-of}
 use Rattle.year.specs.Year.{termAt, courseAt, zeroTerm, zeroCourse, termOf, courseOf}
 use Rattle.year.specs.Sound.{termSound, courseSound, termBlank, courseBlank, termGood, courseGood, shaped, isSound, TermSound, CourseSound, Sound}
 use Rattle.year.specs.declared.Term.{Term}

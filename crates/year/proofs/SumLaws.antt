@@ -5,11 +5,12 @@ use mathlib.Core.Path.{_≡_, ap}
 use native.Mathlib.Omega.{arith}
 use mathlib.Core.List.{List}
 use lib.ListN.{getD}
-use Rattle.theory.specs.Sum.{pick, sum, sum-more, sum-mono, sum-add, sum-le-mul}
-use Rattle.theory.specs.Tab.{tab, getD-tab}
+use Rattle.theory.specs.Sum.{pick, sum}
+use Rattle.theory.proofs.SumLaws.{sum-more, sum-mono, sum-add, sum-le-mul}
+use Rattle.theory.specs.Tab.{tab}
+use Rattle.theory.proofs.TabLaws.{getD-tab}
 use Rattle.year.specs.Year.{courseAt, weight, isFixed, lists}
 use Rattle.year.specs.Sums.{fixedWeight, openWeight, fixedOne, openOne, fixedCredits, openCredits, fixedCount, openCount, allCredits, sumsTo, sumsAt, sumsWith, noSums}
-use Rattle.year.specs.Parts.{fixedIn}
 use Rattle.year.specs.Sound.{Sound}
 use Rattle.year.specs.declared.Sums.{Sums}
 use Rattle.year.specs.declared.Year.{Year}
@@ -87,7 +88,7 @@ module _ (y : Year) (s : List Sums) (e : s ≡ tab 16 (sumsAt y)) (k : ℕ) (h :
   pub sums-read : getD s k noSums ≡ sumsAt y k
   sums-read = rw e (getD-tab 16 (sumsAt y) noSums k h)
 
-  pub fixed-read : fixedIn s k ≡ fixedCredits y k
+  pub fixed-read : getD s k noSums .fixed .0 ≡ fixedCredits y k
   unfolding sumsAt fixedCredits
   fixed-read = ap (λ (z : Sums). z .fixed .0) sums-read
 

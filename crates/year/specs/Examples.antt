@@ -11,7 +11,8 @@ use Rattle.year.specs.Sound.{isSound}
 use Rattle.year.specs.Sums.{fixedCredits, fixedCount, isPlaced, allPlaced}
 use Rattle.year.specs.Tight.{creditsWithin, countsWithin}
 use Rattle.year.specs.Narrow.{answered, placeOf, barOf, raiseLowCreditsOf, lowerHighCreditsOf, raiseLowCountOf, lowerHighCountOf}
-use Rattle.year.specs.Imbalance.{largest, smallest, onePlan, spreadOf, imbalanceOf}
+use Rattle.theory.specs.Largest.{largest, smallest}
+use Rattle.year.specs.Imbalance.{onePlan, spreadOf, imbalanceOf}
 use Rattle.year.specs.declared.Year.{Year}
 use Rattle.year.specs.declared.Narrowing.the-variants.{Done, Unsound, Missing, Outside, Crossing}
 use Rattle.year.specs.declared.Measured.the-variants as measured

@@ -1,9 +1,10 @@
 -- The imbalance of a settled year: credits of the heaviest term less those of the lightest.
-use Prim.Native.Nat.{ℕ, zero, suc, _-_, max, min}
+use Prim.Native.Nat.{ℕ, _-_}
 use mathlib.Core.Bool.{Bool, _&&_}
 use lib.Dec.{leb}
 use Rattle.theory.specs.Choice.{choose}
 use Rattle.theory.specs.Tests.{all}
+use Rattle.theory.specs.Largest.{largest, smallest}
 use Rattle.year.specs.Year.{termAt}
 use Rattle.year.specs.Sums.{fixedCredits, fixedCount, allPlaced}
 use Rattle.year.specs.Sound.{isSound}
@@ -11,15 +12,6 @@ use Rattle.year.specs.declared.Term.{Term}
 use Rattle.year.specs.declared.Year.{Year}
 use Rattle.year.specs.declared.Measured.{Measured}
 use Rattle.year.specs.declared.Measured.the-variants.{Imbalance, Unsound, Unsettled}
-
--- the largest and the smallest of f 0 .. f (n - 1), for n from 1 on
-unfoldable pub largest : ℕ → (ℕ → ℕ) → ℕ
-largest zero f = f 0
-largest (suc n) f = max (largest n f) (f n)
-
-unfoldable pub smallest : ℕ → (ℕ → ℕ) → ℕ
-smallest zero f = f 0
-smallest (suc n) f = min (smallest n f) (f n)
 
 -- credits c and count n are within a term's bounds
 abbrev pub fits : Term → ℕ → ℕ → Bool

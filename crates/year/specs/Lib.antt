@@ -1,8 +1,7 @@
--- What a year means: read these first, in this order.
+-- To be believed: what a year means. Read these first, in this order.
 pub mod Year
 pub mod Sound
 pub mod Sums
-pub mod Parts
 pub mod Tight
 pub mod Narrow
 pub mod Imbalance

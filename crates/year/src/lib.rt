@@ -37,12 +37,6 @@ pub struct Year {
     pub course: [Course; Year::COURSES],
 }
 
-// The courses of a year in two arrays.
-pub struct Columns {
-    pub weight: [u32; Year::COURSES],
-    pub list: [u16; Year::COURSES],
-}
-
 // The four sums of a term: the credits fixed in it (p), those fixed or open (P), the number fixed and the number open.
 pub struct Sums {
     pub fixed: Credits,

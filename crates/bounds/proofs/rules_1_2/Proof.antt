@@ -1,26 +1,27 @@
 -- Each rule starts from the bounds that the rule before it left, and the courses stay.
 use mathlib.Core.Path.{_∙_}
 use borrow.Author.Needs.{needs}
-use Rattle.rules.specs.Step.{overTerms, yearIn, stepIn}
+use Rattle.rules.specs.Step.{overTerms, Step}
+use Rattle.frame.specs.State.{yearIn, stepIn}
 use Rattle.rules.specs.Bounds.{rule1}
 use Rattle.rules.specs.Round.{bounded}
-use Rattle.rules.specs.declared.Step.{Step}
-use Rattle.rules.proofs.Holding.{sums-held}
-use Rattle.bounds.proofs.StageLaws.{Stage, stage-start, stage-long, stage-sound, stage-end, stage-1, stage-2, sums-fit}
+use Rattle.frame.proofs.StateLaws.{sums-held}
+use Rattle.frame.proofs.BoundsAt.{BoundsAt, at-start, at-long, at-sound, at-end, sums-fit}
+use Rattle.bounds.proofs.BoundsRows.{row-1, row-2}
 use Rattle.bounds.proofs.rules_1_2.Statement.{statement}
 use Rattle.bounds.proofs.rules_1_2.Tie as tie
 
 abbrev from : tie.Start → Step
 from b = stepIn (b .args .weight .now) (b .args .s)
 
-starts : (c : tie.After-bounds-of) → Stage (from (c .before .before .before)) (c .bounds-of .result) (from (c .before .before .before))
-starts c = let b = c .before .before .before in stage-start (from b) (c .bounds-of .result) (b .pre .0) (c .bounds-of .ensures)
+starts : (c : tie.After-bounds-of) → BoundsAt (from (c .before .before .before)) (c .bounds-of .result) (from (c .before .before .before))
+starts c = let b = c .before .before .before in at-start (from b) (c .bounds-of .result) (b .pre .0) (c .bounds-of .ensures)
 
-first : (c : tie.After-own-rule) → Stage (from (c .before .before .before .before)) (c .own-rule .result) (overTerms (bounded rule1) (from (c .before .before .before .before)))
+first : (c : tie.After-own-rule) → BoundsAt (from (c .before .before .before .before)) (c .own-rule .result) (overTerms (bounded rule1) (from (c .before .before .before .before)))
 first c =
     let b = c .before .before .before .before in
     let w = b .args .weight .now in
-    stage-1 (from b) (c .before .bounds-of .result) (from b) (starts (c .before)) (b .args .s .sums) (sums-held w (b .args .s) (b .pre .1 .0)) (c .own-rule .result) (c .own-rule .ensures)
+    row-1 (from b) (c .before .bounds-of .result) (from b) (starts (c .before)) (b .args .s .sums) (sums-held w (b .args .s) (b .pre .1 .0)) (c .own-rule .result) (c .own-rule .ensures)
 
 bounds-of-requires : tie.Need-bounds-of-requires
 bounds-of-requires c κs = search needs
@@ -29,15 +30,15 @@ own-rule-requires : tie.Need-own-rule-requires
 own-rule-requires c κs =
     let b = c .before .before .before in
     let w = b .args .weight .now in (
-      (b .pre .0 .terms-most, stage-long (from b) (c .bounds-of .result) (from b) (starts c)),
+      (b .pre .0 .terms-most, at-long (from b) (c .bounds-of .result) (from b) (starts c)),
       sums-fit (yearIn w (b .args .s)) (b .args .s .sums) (b .pre .0) (sums-held w (b .args .s) (b .pre .1 .0)),
     )
 
 shared-rule-requires : tie.Need-shared-rule-requires
 shared-rule-requires c κs =
     let b = c .before .before .before .before in (
-      (b .pre .0 .terms-most, stage-long (from b) (c .own-rule .result) _ (first c)),
-      stage-sound (from b) (c .own-rule .result) _ (first c),
+      (b .pre .0 .terms-most, at-long (from b) (c .own-rule .result) _ (first c)),
+      at-sound (from b) (c .own-rule .result) _ (first c),
     )
 
 with-bounds-requires : tie.Need-with-bounds-requires
@@ -47,8 +48,8 @@ returns : tie.Need-returns
 returns c =
     let b = c .before .before .before .before .before .before in
     let r = c .before .shared-rule .result in
-    let second = stage-2 (from b) (c .before .before .own-rule .result) _ (first (c .before .before)) r (b .args .all) (b .pre .1 .1) (c .before .shared-rule .ensures) in
-    c .with-bounds .ensures ∙ stage-end (from b) r _ second (b .args .s) (b .pre .1 .0)
+    let second = row-2 (from b) (c .before .before .own-rule .result) _ (first (c .before .before)) r (b .args .all) (b .pre .1 .1) (c .before .shared-rule .ensures) in
+    c .with-bounds .ensures ∙ at-end (from b) r _ second (b .args .s) (b .pre .1 .0)
 
 pub rules-1-2-spec : {M : Type 1} → statement M
 rules-1-2-spec =

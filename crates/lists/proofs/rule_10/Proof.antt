@@ -5,10 +5,12 @@ use mathlib.Core.Path.{_≡_, ap, _∙_}
 use lib.Dec.{eqb, ltb}
 use borrow.Author.Tests.{ltb-true, eqb-true}
 use borrow.Author.Needs.{needs}
-use Rattle.theory.specs.Tests.{and-true}
-use Rattle.rules.specs.Step.{overTo, held, stepIn}
+use Rattle.theory.specs.Fold.{fold}
+use Rattle.theory.proofs.TestLaws.{and-true}
+use Rattle.rules.specs.Step.{overTo}
+use Rattle.frame.specs.State.{held, stepIn}
 use Rattle.rules.specs.Lists.{rule10}
-use Rattle.rules.specs.declared.State.{State}
+use Rattle.frame.specs.declared.State.{State}
 use Rattle.lists.proofs.OverLaws.{TermTurn, fits-10, turn-10, ends}
 use Rattle.lists.proofs.rule_10.Statement.{statement}
 use Rattle.lists.proofs.rule_10.Tie as tie
@@ -37,7 +39,7 @@ at c =
     turn-10 (b .args .weight .now) (b .args .t1) (b .pre .1 .0) (b .pre .1 .1 .1) (l .loop .j) (within i) (l .loop .z) (l .loop .inv .1) (going i) (c .judge-10 .result) (c .judge-10 .ensures)
 
 loop-holds : tie.Need-loop-holds Inv-loop μ-loop
-unfolding overTo
+unfolding fold
 loop-holds c = (search needs, c .before .pre .1 .1 .0)
 
 mul-t : tie.Need-mul-t Inv-loop μ-loop

@@ -4,9 +4,11 @@ use mathlib.Core.Logic.{⊎-elim}
 use mathlib.Core.Path.{_≡_, ap, _∙_}
 use native.Mathlib.Omega.{arith}
 use borrow.Author.Needs.{needs}
-use Rattle.rules.specs.Step.{overTo, held, stepIn}
+use Rattle.theory.specs.Fold.{fold}
+use Rattle.rules.specs.Step.{overTo}
+use Rattle.frame.specs.State.{held, stepIn}
 use Rattle.rules.specs.Lists.{rule3}
-use Rattle.rules.proofs.Holding.{list-long}
+use Rattle.frame.proofs.StateLaws.{list-long}
 use Rattle.lists.proofs.OverLaws.{TermTurn, fits-3, turn-3}
 use Rattle.lists.proofs.rule_3.Statement.{statement}
 use Rattle.lists.proofs.rule_3.Tie as tie
@@ -37,7 +39,7 @@ tops-requires c κs = let b = c .before .before .before in
     (omega (arith, sound), omega (arith, sound, b .pre .0), omega (arith, sound, list-long (b .args .weight .now) (b .args .t1) (b .pre .1 .1 .0)))
 
 loop-holds : tie.Need-loop-holds Inv-loop μ-loop
-unfolding overTo
+unfolding fold
 loop-holds c = (search needs, c .before .before .before .before .pre .1 .1 .0)
 
 mul-t : tie.Need-mul-t Inv-loop μ-loop

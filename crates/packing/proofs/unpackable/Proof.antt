@@ -5,11 +5,12 @@ use native.Mathlib.Nat.{mul-le-mul-right}
 use native.Mathlib.Omega.{arith}
 use lib.ListN.{length, take}
 use borrow.Author.Needs.{needs}
-use Rattle.theory.specs.Tab.{tab, length-tab}
+use Rattle.theory.specs.Tab.{tab}
+use Rattle.theory.proofs.TabLaws.{length-tab}
 use Rattle.theory.specs.Tests.{any}
 use Rattle.year.specs.Sums.{sumsAt}
-use Rattle.rules.specs.Step.{yearIn}
-use Rattle.rules.proofs.Holding.{sums-held, list-long}
+use Rattle.frame.specs.State.{yearIn}
+use Rattle.frame.proofs.StateLaws.{sums-held, list-long}
 use Rattle.packing.specs.Sizes.{sizeIn, usedIn, over}
 use Rattle.packing.proofs.ArrayLaws.{take-first}
 use Rattle.packing.proofs.StateLaws.{room-most, bursting-is, empty-is, over-is}

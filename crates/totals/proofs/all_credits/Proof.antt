@@ -3,7 +3,8 @@ use Prim.Native.Nat.{_≤_, _-_}
 use mathlib.Core.Path.{_≡_, ap, _∙_}
 use native.Mathlib.Omega.{arith}
 use borrow.Author.Needs.{needs}
-use Rattle.theory.specs.Sum.{sum, sum-more}
+use Rattle.theory.specs.Sum.{sum}
+use Rattle.theory.proofs.SumLaws.{sum-more}
 use Rattle.year.specs.Year.{weight}
 use Rattle.year.specs.Sums.{allCredits}
 use Rattle.year.proofs.SumLaws.{weights-to, weights-fit}

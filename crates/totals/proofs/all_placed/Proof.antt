@@ -4,7 +4,8 @@ use mathlib.Core.Path.{_≡_, sym, ap, ap₂, _∙_}
 use mathlib.Core.Bool.{_&&_}
 use native.Mathlib.Omega.{arith}
 use borrow.Author.Needs.{needs}
-use Rattle.theory.specs.Tests.{all, all-more}
+use Rattle.theory.specs.Tests.{all}
+use Rattle.theory.proofs.TestLaws.{all-more}
 use Rattle.year.specs.Sums.{placedAt, allPlaced}
 use Rattle.totals.proofs.all_placed.Statement.{statement}
 use Rattle.totals.proofs.all_placed.Tie as tie

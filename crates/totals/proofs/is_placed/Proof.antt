@@ -4,7 +4,8 @@ use mathlib.Core.Path.{_≡_, sym, ap, ap₂, _∙_}
 use mathlib.Core.Bool.{_||_}
 use native.Mathlib.Omega.{arith}
 use borrow.Author.Needs.{needs}
-use Rattle.theory.specs.Tests.{any, any-more}
+use Rattle.theory.specs.Tests.{any}
+use Rattle.theory.proofs.TestLaws.{any-more}
 use Rattle.year.specs.Year.{isFixed}
 use Rattle.year.specs.Sums.{isPlaced}
 use Rattle.totals.proofs.is_placed.Statement.{statement}

@@ -6,10 +6,10 @@ use borrow.Author.Needs.{needs}
 use Rattle.theory.specs.Sum.{sum}
 use Rattle.year.specs.Year.{courseAt, weight}
 use Rattle.year.specs.Sums.{sumsTo, sumsWith}
-use Rattle.year.specs.Parts.{bare}
+use Rattle.totals.specs.Parts.{bare}
 use Rattle.year.specs.declared.Course.{Course}
 use Rattle.year.proofs.SumLaws.{sums-more, sums-fit}
-use Rattle.year.proofs.PartLaws.{course-in}
+use Rattle.totals.proofs.PartLaws.{course-in}
 use Rattle.totals.proofs.sums_in.Statement.{statement}
 use Rattle.totals.proofs.sums_in.Tie as tie
 

@@ -1,7 +1,7 @@
 -- The sums over the parts are the year's, since the parts put together are the year.
 use mathlib.Core.Path.{_∙_}
 use borrow.Author.Needs.{needs}
-use Rattle.year.proofs.PartLaws.{sums-apart, columns-fit}
+use Rattle.totals.proofs.PartLaws.{sums-apart, columns-fit}
 use Rattle.totals.proofs.sums_of.Statement.{statement}
 use Rattle.totals.proofs.sums_of.Tie as tie
 

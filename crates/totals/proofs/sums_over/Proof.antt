@@ -5,11 +5,11 @@ use mathlib.Core.Path.{_≡_, sym, ap, ap₂, _∙_}
 use native.Mathlib.Omega.{arith}
 use lib.ListN.{length, replicate, set, length-replicate, getD-replicate}
 use borrow.Author.Needs.{needs}
-use Rattle.theory.specs.Tab.{fill, fill-more, fill-front, length-fill}
+use Rattle.theory.proofs.TabLaws.{fill, fill-more, fill-front, length-fill}
 use Rattle.year.specs.Sums.{sumsTo, noSums}
-use Rattle.year.specs.Parts.{bare}
+use Rattle.totals.specs.Parts.{bare}
 use Rattle.year.specs.declared.Sums.{Sums}
-use Rattle.year.proofs.PartLaws.{sums-past}
+use Rattle.totals.proofs.PartLaws.{sums-past}
 use Rattle.totals.proofs.sums_over.Statement.{statement}
 use Rattle.totals.proofs.sums_over.Tie as tie
 

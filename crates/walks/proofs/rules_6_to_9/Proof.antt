@@ -4,15 +4,15 @@ use lib.ListN.{length}
 use borrow.Author.Needs.{needs}
 use Rattle.theory.specs.Tab.{tab}
 use Rattle.year.specs.Sums.{sumsAt}
-use Rattle.rules.specs.Step.{overTerms, stepIn}
+use Rattle.rules.specs.Step.{overTerms, Step}
+use Rattle.frame.specs.State.{stepIn}
 use Rattle.rules.specs.Spares.{down, up, rule6, rule7, rule8, rule9}
 use Rattle.rules.specs.Round.{bounded}
-use Rattle.rules.specs.declared.Step.{Step}
-use Rattle.rules.proofs.Holding.{sums-held, list-long}
-use Rattle.walks.specs.declared.Orders.{Orders}
-use Rattle.walks.proofs.OrderLaws.{OrderFits, down-fits, up-fits}
-use Rattle.bounds.proofs.StageLaws.{Stage, stage-start, stage-end}
-use Rattle.walks.proofs.WalkStages.{stage-6, stage-7, stage-8, stage-9, walk-asks}
+use Rattle.frame.proofs.StateLaws.{sums-held, list-long}
+use Rattle.orders.specs.declared.Orders.{Orders}
+use Rattle.orders.proofs.OrderLaws.{OrderFits, down-fits, up-fits}
+use Rattle.frame.proofs.BoundsAt.{BoundsAt, at-start, at-end}
+use Rattle.walks.proofs.WalkStages.{row-6, row-7, row-8, row-9, walk-asks}
 use Rattle.walks.proofs.rules_6_to_9.Statement.{statement}
 use Rattle.walks.proofs.rules_6_to_9.Tie as tie
 
@@ -68,32 +68,32 @@ after8 b = overTerms (bounded rule8) (after7 b)
 abbrev after9 : tie.Start → Step
 after9 b = overTerms (bounded rule9) (after8 b)
 
-starts : (c : tie.After-bounds-of) → Stage (from (start c)) (c .bounds-of .result) (from (start c))
-starts c = stage-start (from (start c)) (c .bounds-of .result) (start c .pre .1 .0) (c .bounds-of .ensures)
+starts : (c : tie.After-bounds-of) → BoundsAt (from (start c)) (c .bounds-of .result) (from (start c))
+starts c = at-start (from (start c)) (c .bounds-of .result) (start c .pre .1 .0) (c .bounds-of .ensures)
 
-sixth : (c : tie.After-walk-rule) → Stage (from (start6 c)) (c .walk-rule .result) (after6 (start6 c))
+sixth : (c : tie.After-walk-rule) → BoundsAt (from (start6 c)) (c .walk-rule .result) (after6 (start6 c))
 sixth c =
     let b = start6 c in
     let a = c .before .before .before in
-    stage-6 (from b) (a .bounds-of .result) (from b) (starts a) (b .args .s .sums) (sums-are b) (c .walk-rule .result) (b .args .o .down) (down-is b) (c .walk-rule .ensures)
+    row-6 (from b) (a .bounds-of .result) (from b) (starts a) (b .args .s .sums) (sums-are b) (c .walk-rule .result) (b .args .o .down) (down-is b) (c .walk-rule .ensures)
 
-seventh : (c : tie.After-walk-rule2) → Stage (from (start7 c)) (c .walk-rule2 .result) (after7 (start7 c))
+seventh : (c : tie.After-walk-rule2) → BoundsAt (from (start7 c)) (c .walk-rule2 .result) (after7 (start7 c))
 seventh c =
     let b = start7 c in
     let a = c .before .before .before in
-    stage-7 (from b) (a .walk-rule .result) (after6 b) (sixth a) (b .args .s .sums) (sums-are b) (c .walk-rule2 .result) (b .args .o .up) (up-is b) (c .walk-rule2 .ensures)
+    row-7 (from b) (a .walk-rule .result) (after6 b) (sixth a) (b .args .s .sums) (sums-are b) (c .walk-rule2 .result) (b .args .o .up) (up-is b) (c .walk-rule2 .ensures)
 
-eighth : (c : tie.After-walk-rule3) → Stage (from (start8 c)) (c .walk-rule3 .result) (after8 (start8 c))
+eighth : (c : tie.After-walk-rule3) → BoundsAt (from (start8 c)) (c .walk-rule3 .result) (after8 (start8 c))
 eighth c =
     let b = start8 c in
     let a = c .before .before .before in
-    stage-8 (from b) (a .walk-rule2 .result) (after7 b) (seventh a) (b .args .s .sums) (sums-are b) (c .walk-rule3 .result) (b .args .o .up) (up-is b) (c .walk-rule3 .ensures)
+    row-8 (from b) (a .walk-rule2 .result) (after7 b) (seventh a) (b .args .s .sums) (sums-are b) (c .walk-rule3 .result) (b .args .o .up) (up-is b) (c .walk-rule3 .ensures)
 
-ninth : (c : tie.After-walk-rule4) → Stage (from (start9 c)) (c .walk-rule4 .result) (after9 (start9 c))
+ninth : (c : tie.After-walk-rule4) → BoundsAt (from (start9 c)) (c .walk-rule4 .result) (after9 (start9 c))
 ninth c =
     let b = start9 c in
     let a = c .before .before .before in
-    stage-9 (from b) (a .walk-rule3 .result) (after8 b) (eighth a) (b .args .s .sums) (sums-are b) (c .walk-rule4 .result) (b .args .o .down) (down-is b) (c .walk-rule4 .ensures)
+    row-9 (from b) (a .walk-rule3 .result) (after8 b) (eighth a) (b .args .s .sums) (sums-are b) (c .walk-rule4 .result) (b .args .o .down) (down-is b) (c .walk-rule4 .ensures)
 
 -- ---- the needs
 
@@ -155,7 +155,7 @@ returns : tie.Need-returns
 returns c =
     let a = c .before in
     let b = start9 a in
-    c .with-bounds .ensures ∙ stage-end (from b) (a .walk-rule4 .result) (after9 b) (ninth a) (b .args .s) (b .pre .1 .1 .0)
+    c .with-bounds .ensures ∙ at-end (from b) (a .walk-rule4 .result) (after9 b) (ninth a) (b .args .s) (b .pre .1 .1 .0)
 
 pub rules-6-to-9-spec : {M : Type 1} → statement M
 rules-6-to-9-spec =

@@ -5,24 +5,25 @@ use mathlib.Core.Path.{_≡_, refl}
 use native.Mathlib.Omega.{arith}
 use lib.Dec.{eqb, ltb}
 use borrow.Author.Needs.{needs}
+use Rattle.theory.specs.Fold.{fold}
 use Rattle.bounds.specs.Near.{ownAt}
-use Rattle.bounds.specs.Turns.{overFirst}
-use Rattle.bounds.proofs.TurnLaws.{goes-on, turn, finish}
+use Rattle.frame.specs.Bounds.{boundsOver}
+use Rattle.frame.proofs.BoundsOver.{goes-on, term-turn, over-finish}
 use Rattle.bounds.proofs.near.own_rule.Statement.{statement}
 use Rattle.bounds.proofs.near.own_rule.Tie as tie
 
 abbrev Inv-loop : tie.InvT-loop
-Inv-loop rule m sums z₀ j₀ z j = (j ≤ m) × (z ≡ overFirst (ownAt rule sums) z₀ j)
+Inv-loop rule m sums z₀ j₀ z j = (j ≤ m) × (z ≡ boundsOver (ownAt rule sums) z₀ j)
 
 abbrev μ-loop : tie.MeasureT-loop
 μ-loop rule m sums z₀ j₀ z j = m - j
 
--- a turn is at a term of the array
+-- a term-turn is at a term of the array
 small : (l : tie.At-loop Inv-loop μ-loop) → ltb (l .loop .j) (l .before .args .m) && eqb (l .loop .z .rule) 0 ≡ true → l .loop .j < 16
 small l e = omega (arith, goes-on (l .loop .j) (l .before .args .m) (l .loop .z .rule) e .0, l .before .pre .0)
 
 loop-holds : tie.Need-loop-holds Inv-loop μ-loop
-unfolding overFirst
+unfolding fold
 loop-holds c = (omega arith, refl)
 
 mul-own : tie.Need-mul-own Inv-loop μ-loop
@@ -60,12 +61,12 @@ loop-again : tie.Need-loop-again Inv-loop μ-loop
 loop-again c =
     let l = c .before .before .before .before .before .before in
     let on = goes-on (l .loop .j) (l .before .args .m) (l .loop .z .rule) (c .before .before .before .before .before .loop-test .taken) in
-    (omega (arith, on .0), turn _ _ (l .loop .j) (l .loop .z) (c .before .before .own .result) (l .loop .inv .1) (on .1) (c .before .before .own .ensures))
+    (omega (arith, on .0), term-turn _ _ (l .loop .j) (l .loop .z) (c .before .before .own .result) (l .loop .inv .1) (on .1) (c .before .before .own .ensures))
 
 returns : tie.Need-returns Inv-loop μ-loop
 returns c =
     let l = c .before in
-    finish _ _ (l .loop .j) (l .before .args .m) (l .loop .z) (l .loop .inv .0) (l .loop .inv .1) (c .loop-test .left)
+    over-finish _ _ (l .loop .j) (l .before .args .m) (l .loop .z) (l .loop .inv .0) (l .loop .inv .1) (c .loop-test .left)
 
 pub own-rule-spec : {M : Type 1} → statement M
 own-rule-spec =

@@ -6,21 +6,22 @@ use native.Mathlib.Omega.{arith}
 use lib.Dec.{eqb, ltb}
 use lib.ListN.{length}
 use borrow.Author.Needs.{needs}
+use Rattle.theory.specs.Fold.{fold}
 use Rattle.year.specs.Sound.{TermSound}
-use Rattle.year.specs.Parts.{termIn}
+use Rattle.totals.specs.Parts.{termIn}
 use Rattle.rules.specs.declared.Outcome.{Outcome}
 use Rattle.bounds.specs.Near.{totalsTo, sharedOf, sharedAt}
-use Rattle.bounds.specs.Turns.{overFirst}
-use Rattle.bounds.specs.declared.Bounds.{Bounds}
+use Rattle.frame.specs.Bounds.{boundsOver}
+use Rattle.frame.specs.declared.Bounds.{Bounds}
 use Rattle.bounds.specs.declared.Totals.{Totals}
 use Rattle.bounds.proofs.NearLaws.{totals-fit, entry-le, set-sound, totals-set, shared-sound}
-use Rattle.bounds.proofs.TurnLaws.{goes-on, first-long, turn, finish}
+use Rattle.frame.proofs.BoundsOver.{goes-on, over-long, term-turn, over-finish}
 use Rattle.bounds.proofs.near.shared_rule.Statement.{statement}
 use Rattle.bounds.proofs.near.shared_rule.Tie as tie
 
 abbrev Inv-loop : tie.InvT-loop
 Inv-loop rule m all z₀ x₀ j₀ z x j =
-    (j ≤ m) × (z ≡ overFirst (sharedAt rule all) z₀ j) × (x ≡ totalsTo (z .term) 16) × ((k : ℕ) → k < 16 → TermSound (termIn (z .term) k))
+    (j ≤ m) × (z ≡ boundsOver (sharedAt rule all) z₀ j) × (x ≡ totalsTo (z .term) 16) × ((k : ℕ) → k < 16 → TermSound (termIn (z .term) k))
 
 abbrev μ-loop : tie.MeasureT-loop
 μ-loop rule m all z₀ x₀ j₀ z x j = m - j
@@ -28,7 +29,7 @@ abbrev μ-loop : tie.MeasureT-loop
 abbrev start : tie.At-loop Inv-loop μ-loop → tie.Start Inv-loop μ-loop
 start l = l .before .before .before
 
--- a turn is at a term of the array
+-- a term-turn is at a term of the array
 on : (l : tie.At-loop Inv-loop μ-loop) → ltb (l .loop .j) (start l .args .m) && eqb (l .loop .z .rule) 0 ≡ true → (l .loop .j < start l .args .m) × (eqb (l .loop .z .rule) 0 ≡ true)
 on l e = goes-on (l .loop .j) (start l .args .m) (l .loop .z .rule) e
 
@@ -36,9 +37,9 @@ small : (l : tie.At-loop Inv-loop μ-loop) → ltb (l .loop .j) (start l .args .
 small l e = omega (arith, on l e .0, start l .pre .0)
 
 long : (l : tie.At-loop Inv-loop μ-loop) → length (l .loop .z .term) ≡ 16
-long l = ap (λ (z : Bounds). length (z .term)) (l .loop .inv .1) ∙ first-long _ _ (l .loop .j) ∙ start l .pre .0 .1
+long l = ap (λ (z : Bounds). length (z .term)) (l .loop .inv .1) ∙ over-long _ _ (l .loop .j) ∙ start l .pre .0 .1
 
--- the outcome of a turn with totals x; its term is within the sizes
+-- the outcome of a term-turn with totals x; its term is within the sizes
 abbrev outcomeAt : tie.At-loop Inv-loop μ-loop → Totals → Outcome
 outcomeAt l x = sharedOf (start l .args .rule) (termIn (l .loop .z .term) (l .loop .j)) x (start l .args .all)
 
@@ -51,7 +52,7 @@ totals-requires : tie.Need-totals-requires Inv-loop μ-loop
 totals-requires c κs = search needs
 
 loop-holds : tie.Need-loop-holds Inv-loop μ-loop
-unfolding overFirst
+unfolding fold
 loop-holds c = (omega arith, refl, c .totals .ensures, c .before .before .pre .1)
 
 mul-t : tie.Need-mul-t Inv-loop μ-loop
@@ -97,7 +98,7 @@ loop-again c =
     let q = c .before .before .before .shared .ensures in
     let z = l .loop .z in (
       omega (arith, on l e .0),
-      turn _ _ (l .loop .j) z o (l .loop .inv .1) (on l e .1) (q ∙ ap (outcomeAt l) (l .loop .inv .2)),
+      term-turn _ _ (l .loop .j) z o (l .loop .inv .1) (on l e .1) (q ∙ ap (outcomeAt l) (l .loop .inv .2)),
       c .before .changed .ensures ∙ totals-set (z .term) (l .loop .j) h (long l) (o .term) (l .loop .x) (l .loop .inv .2),
       set-sound (z .term) (l .loop .j) h (long l) (o .term) (new l h o q) (l .loop .inv .3),
     )
@@ -105,7 +106,7 @@ loop-again c =
 returns : tie.Need-returns Inv-loop μ-loop
 returns c =
     let l = c .before in
-    finish _ _ (l .loop .j) (start l .args .m) (l .loop .z) (l .loop .inv .0) (l .loop .inv .1) (c .loop-test .left)
+    over-finish _ _ (l .loop .j) (start l .args .m) (l .loop .z) (l .loop .inv .0) (l .loop .inv .1) (c .loop-test .left)
 
 pub shared-rule-spec : {M : Type 1} → statement M
 shared-rule-spec =

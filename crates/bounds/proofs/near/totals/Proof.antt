@@ -4,7 +4,7 @@ use mathlib.Core.Path.{_≡_, sym, ap, _∙_}
 use native.Mathlib.Omega.{arith}
 use borrow.Author.Needs.{needs}
 use Rattle.theory.specs.Sum.{sum}
-use Rattle.year.specs.Parts.{termIn}
+use Rattle.totals.specs.Parts.{termIn}
 use Rattle.bounds.specs.Near.{totalsTo, totalsWith}
 use Rattle.bounds.proofs.NearLaws.{totals-more, totals-fit}
 use Rattle.bounds.proofs.near.totals.Statement.{statement}

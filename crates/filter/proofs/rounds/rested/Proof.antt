@@ -6,14 +6,14 @@ use native.Mathlib.Omega.{arith}
 use borrow.Author.Needs.{needs}
 use Rattle.year.specs.Year.{zeroCourse}
 use Rattle.year.specs.Sums.{allPlaced}
-use Rattle.year.specs.Parts.{courseFrom}
+use Rattle.totals.specs.Parts.{courseFrom}
 use Rattle.year.specs.Sound.{Sound}
 use Rattle.year.specs.declared.Course.{Course}
 use Rattle.year.specs.declared.Year.{Year}
-use Rattle.year.proofs.PartLaws.{course-in}
-use Rattle.rules.specs.Step.{yearIn}
-use Rattle.rules.specs.declared.State.{State}
-use Rattle.rules.proofs.Holding.{list-long}
+use Rattle.totals.proofs.PartLaws.{course-in}
+use Rattle.frame.specs.State.{yearIn}
+use Rattle.frame.specs.declared.State.{State}
+use Rattle.frame.proofs.StateLaws.{list-long}
 use Rattle.filter.specs.Filter.{filtered, atRest}
 use Rattle.filter.specs.declared.Answer.the-variants.{Settled, Open}
 use Rattle.filter.proofs.rounds.rested.Statement.{statement}

@@ -6,12 +6,12 @@ use native.Mathlib.Omega.{arith}
 use lib.ListN.{length}
 use borrow.Author.Needs.{needs}
 use borrow.Author.Tests.{not-true, not-false}
-use Rattle.year.specs.Parts.{weightsOf}
-use Rattle.year.specs.declared.Columns.{Columns}
+use Rattle.totals.specs.Parts.{weightsOf}
+use Rattle.totals.specs.declared.Columns.{Columns}
 use Rattle.year.specs.declared.Year.{Year}
-use Rattle.rules.specs.Step.{yearIn}
-use Rattle.rules.proofs.Measure.{measure}
-use Rattle.walks.proofs.OrderLaws.{weights-fit}
+use Rattle.frame.specs.State.{yearIn}
+use Rattle.rules.proofs.Leeway.{leeway}
+use Rattle.orders.proofs.OrderLaws.{weights-fit}
 use Rattle.filter.proofs.Going as go
 use Rattle.filter.proofs.rounds.run.Statement.{statement}
 use Rattle.filter.proofs.rounds.run.Tie as tie
@@ -20,7 +20,7 @@ abbrev Inv-loop : tie.InvT-loop
 Inv-loop y weight all o₀ s₀ n₀ o s n = go.Going y weight o s n
 
 abbrev μ-loop : tie.MeasureT-loop
-μ-loop y weight all o₀ s₀ n₀ o s n = measure (yearIn weight s)
+μ-loop y weight all o₀ s₀ n₀ o s n = leeway (yearIn weight s)
 
 -- ---- the values of the code
 

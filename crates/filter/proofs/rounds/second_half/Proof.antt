@@ -2,13 +2,12 @@
 use mathlib.Core.List.{List}
 use mathlib.Core.Path.{sym, ap, _∙_}
 use Prim.Native.Nat.{ℕ}
-use borrow.Author.Needs.{needs}
 use borrow.Author.Tests.{ne-eqb}
 use Rattle.year.specs.declared.Year.{Year}
-use Rattle.rules.specs.Step.{held, yearIn, stepIn}
+use Rattle.frame.specs.State.{held, yearIn, stepIn}
+use Rattle.rules.specs.Step.{Step}
 use Rattle.rules.specs.Round.{inRow, rulesOf, rulesFrom}
-use Rattle.rules.specs.declared.Step.{Step}
-use Rattle.rules.proofs.Whole.{narrower-self}
+use Rattle.rules.proofs.Narrows.{narrower-self}
 use Rattle.rules.proofs.Passes.{lawful-from, row-last}
 use Rattle.filter.specs.Halves.{secondHalf}
 use Rattle.filter.proofs.Stages.{Own, own-in, Stage, stage-sound, stage-self, stage-step, stage-rule, stage-row}

@@ -2,8 +2,8 @@
 use mathlib.Core.Bool.{false}
 use mathlib.Core.Path.{ap, _∙_}
 use borrow.Author.Needs.{needs}
-use Rattle.year.specs.declared.Columns.{Columns}
-use Rattle.year.proofs.PartLaws.{columns-fit, sums-apart}
+use Rattle.totals.specs.declared.Columns.{Columns}
+use Rattle.totals.proofs.PartLaws.{columns-fit, sums-apart}
 use Rattle.filter.proofs.rounds.start.Statement.{statement}
 use Rattle.filter.proofs.rounds.start.Tie as tie
 

@@ -4,13 +4,14 @@ use mathlib.Core.Logic.{⊎-elim}
 use mathlib.Core.Path.{_≡_, refl, sym, ap, _∙_}
 use native.Mathlib.Omega.{arith}
 use borrow.Author.Needs.{needs}
+use Rattle.theory.specs.Fold.{fold}
 use Rattle.year.specs.Sums.{sumsAt, fixedCredits, openCredits}
 use Rattle.year.specs.declared.Sums.{Sums}
 use Rattle.year.proofs.SumLaws.{sums-read}
-use Rattle.year.proofs.PartLaws.{course-in}
-use Rattle.rules.specs.Step.{overTo, yearIn}
-use Rattle.rules.specs.declared.State.{State}
-use Rattle.rules.proofs.Holding.{sums-held, list-long}
+use Rattle.totals.proofs.PartLaws.{course-in}
+use Rattle.frame.specs.State.{yearIn}
+use Rattle.frame.specs.declared.State.{State}
+use Rattle.frame.proofs.StateLaws.{sums-held, list-long}
 use Rattle.lists.proofs.CourseLaws.{kept-is, keptTo, Turn, turn-at}
 use Rattle.lists.proofs.courses.each_course.Statement.{statement}
 use Rattle.lists.proofs.courses.each_course.Tie as tie
@@ -46,7 +47,7 @@ element-copy-out-u : tie.Need-element-copy-out-u Inv-loop μ-loop
 element-copy-out-u c = search needs
 
 loop-holds : tie.Need-loop-holds Inv-loop μ-loop
-unfolding overTo sumsAt fixedCredits openCredits
+unfolding fold sumsAt fixedCredits openCredits
 loop-holds c = let b = c .before .before .before .before in
     let a = b .args in
     let y = yearIn (a .weight .now) (a .t1) in

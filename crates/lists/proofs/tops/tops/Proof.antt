@@ -4,8 +4,8 @@ use mathlib.Core.Path.{_≡_, refl, sym, ap, ap₂, _∙_}
 use native.Mathlib.Omega.{arith}
 use borrow.Author.Needs.{needs}
 use Rattle.theory.specs.Tab.{tab}
-use Rattle.year.specs.Parts.{coursesFrom}
-use Rattle.year.proofs.PartLaws.{course-in}
+use Rattle.totals.specs.Parts.{coursesFrom}
+use Rattle.totals.proofs.PartLaws.{course-in}
 use Rattle.lists.specs.Tops.{topTo, topWith}
 use Rattle.lists.proofs.TopLaws.{tops-more}
 use Rattle.lists.proofs.tops.tops.Statement.{statement}

@@ -4,7 +4,7 @@ use mathlib.Core.Path.{_≡_, sym, ap, ap₂, _∙_}
 use native.Mathlib.Omega.{arith}
 use lib.ListN.{replicate, set, length-replicate}
 use borrow.Author.Needs.{needs}
-use Rattle.theory.specs.Tab.{fill, fill-more, fill-all}
+use Rattle.theory.proofs.TabLaws.{fill, fill-more, fill-all}
 use Rattle.lists.specs.Tops.{topWith}
 use Rattle.lists.proofs.tops.with_course.Statement.{statement}
 use Rattle.lists.proofs.tops.with_course.Tie as tie

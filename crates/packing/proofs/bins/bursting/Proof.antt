@@ -4,7 +4,8 @@ use mathlib.Core.Bool.{_||_}
 use mathlib.Core.Path.{_≡_, sym, ap, _∙_}
 use native.Mathlib.Omega.{arith}
 use borrow.Author.Needs.{needs}
-use Rattle.theory.specs.Tests.{any, any-more}
+use Rattle.theory.specs.Tests.{any}
+use Rattle.theory.proofs.TestLaws.{any-more}
 use Rattle.packing.specs.Bins.{burstIn}
 use Rattle.packing.proofs.bins.bursting.Statement.{statement}
 use Rattle.packing.proofs.bins.bursting.Tie as tie

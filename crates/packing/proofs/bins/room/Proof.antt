@@ -4,9 +4,9 @@ use mathlib.Core.Logic.{⊎-elim}
 use mathlib.Core.Path.{_≡_, ap, _∙_}
 use native.Mathlib.Omega.{arith}
 use borrow.Author.Needs.{needs}
-use Rattle.year.specs.Imbalance.{largest}
-use Rattle.year.proofs.SpreadLaws.{largest-more}
-use Rattle.year.specs.Parts.{highIn}
+use Rattle.theory.specs.Largest.{largest}
+use Rattle.theory.proofs.LargestLaws.{largest-more}
+use Rattle.totals.specs.Parts.{highIn}
 use Rattle.packing.proofs.bins.room.Statement.{statement}
 use Rattle.packing.proofs.bins.room.Tie as tie
 

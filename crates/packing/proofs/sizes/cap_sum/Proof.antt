@@ -4,7 +4,8 @@ use mathlib.Core.Path.{_≡_, ap, _∙_}
 use native.Mathlib.Omega.{arith}
 use lib.ListN.{length}
 use borrow.Author.Needs.{needs}
-use Rattle.theory.specs.Sum.{sum as total, sum-more}
+use Rattle.theory.specs.Sum.{sum as total}
+use Rattle.theory.proofs.SumLaws.{sum-more}
 use Rattle.packing.specs.Sizes.{cappedAt, capSum}
 use Rattle.packing.proofs.sizes.cap_sum.Statement.{statement}
 use Rattle.packing.proofs.sizes.cap_sum.Tie as tie

@@ -5,7 +5,8 @@ use mathlib.Core.Path.{_≡_, sym, ap, _∙_}
 use native.Mathlib.Omega.{arith}
 use borrow.Author.Tests.{lt-ltb, le-ltb}
 use borrow.Author.Needs.{needs}
-use Rattle.theory.specs.Tests.{any, any-of}
+use Rattle.theory.specs.Tests.{any}
+use Rattle.theory.proofs.TestLaws.{any-of}
 use Rattle.packing.specs.Sizes.{shareSum, over}
 use Rattle.packing.proofs.SizeLaws.{none-more}
 use Rattle.packing.proofs.sizes.exceeds.Statement.{statement}

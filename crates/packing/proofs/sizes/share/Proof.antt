@@ -2,7 +2,7 @@
 use mathlib.Core.Path.{sym}
 use native.Mathlib.Omega.{arith}
 use borrow.Author.Needs.{needs}
-use Rattle.theory.specs.Packing.{share-big, share-small, share-mid}
+use Rattle.theory.proofs.PackingLaws.{share-big, share-small, share-mid}
 use Rattle.packing.proofs.sizes.share.Statement.{statement}
 use Rattle.packing.proofs.sizes.share.Tie as tie
 

@@ -4,7 +4,7 @@ use mathlib.Core.Path.{_≡_, sym, ap, ap₂, _∙_}
 use native.Mathlib.Omega.{arith}
 use lib.ListN.{replicate, set}
 use borrow.Author.Needs.{needs}
-use Rattle.theory.specs.Tab.{fill, fill-more}
+use Rattle.theory.proofs.TabLaws.{fill, fill-more}
 use Rattle.packing.specs.Sizes.{usedIn, firstOf}
 use Rattle.packing.proofs.ArrayLaws.{first-is, fill-first}
 use Rattle.packing.proofs.sizes.term_sizes.Statement.{statement}

@@ -6,7 +6,8 @@ use mathlib.Core.Path.{_≡_, _∙_, ap, sym}
 use mathlib.Core.Bool.{Bool, _&&_}
 use native.Mathlib.Omega.{arith}
 use borrow.Author.Needs.{needs}
-use Rattle.theory.specs.Tests.{all, all-more}
+use Rattle.theory.specs.Tests.{all}
+use Rattle.theory.proofs.TestLaws.{all-more}
 use Rattle.records.specs.Bytes.{blankAt}
 
 abbrev Inv-loop : tie.InvT-loop

@@ -6,10 +6,10 @@ use native.Mathlib.Omega.{arith}
 use lib.Dec.{lit<}
 use borrow.Author.Needs.{needs}
 use Rattle.year.specs.Sums.{fixedCredits}
-use Rattle.year.specs.Imbalance.{largest}
-use Rattle.year.specs.Parts.{fixedIn}
+use Rattle.theory.specs.Largest.{largest}
+use Rattle.totals.specs.Parts.{fixedIn}
 use Rattle.year.proofs.SumLaws.{fixed-read}
-use Rattle.year.proofs.SpreadLaws.{largest-more, largest-same}
+use Rattle.theory.proofs.LargestLaws.{largest-more, largest-same}
 use Rattle.totals.proofs.measure.heaviest.Statement.{statement}
 use Rattle.totals.proofs.measure.heaviest.Tie as tie
 

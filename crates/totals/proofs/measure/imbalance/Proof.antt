@@ -8,7 +8,7 @@ use Rattle.year.specs.Sound.{Sound, isSound}
 use Rattle.year.specs.Sums.{fixedCredits}
 use Rattle.year.specs.Imbalance.{onePlan, spreadOf, imbalanceOf}
 use Rattle.year.proofs.SoundLaws.{sound-of}
-use Rattle.year.proofs.SpreadLaws.{smallest-le-largest}
+use Rattle.theory.proofs.LargestLaws.{smallest-le-largest}
 use Rattle.totals.proofs.measure.imbalance.Statement.{statement}
 use Rattle.totals.proofs.measure.imbalance.Tie as tie
 

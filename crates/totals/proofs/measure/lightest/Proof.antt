@@ -6,10 +6,10 @@ use native.Mathlib.Omega.{arith}
 use lib.Dec.{lit<}
 use borrow.Author.Needs.{needs}
 use Rattle.year.specs.Sums.{fixedCredits}
-use Rattle.year.specs.Imbalance.{smallest}
-use Rattle.year.specs.Parts.{fixedIn}
+use Rattle.theory.specs.Largest.{smallest}
+use Rattle.totals.specs.Parts.{fixedIn}
 use Rattle.year.proofs.SumLaws.{fixed-read}
-use Rattle.year.proofs.SpreadLaws.{smallest-more, smallest-same}
+use Rattle.theory.proofs.LargestLaws.{smallest-more, smallest-same}
 use Rattle.totals.proofs.measure.lightest.Statement.{statement}
 use Rattle.totals.proofs.measure.lightest.Tie as tie
 

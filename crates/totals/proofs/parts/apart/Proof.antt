@@ -5,7 +5,8 @@ use mathlib.Core.Path.{_≡_, sym, ap, _∙_}
 use native.Mathlib.Omega.{arith}
 use lib.ListN.{length, replicate, set, length-replicate}
 use borrow.Author.Needs.{needs}
-use Rattle.theory.specs.Tab.{tab, fill, fill-more, fill-all, length-fill}
+use Rattle.theory.specs.Tab.{tab}
+use Rattle.theory.proofs.TabLaws.{fill, fill-more, fill-all, length-fill}
 use Rattle.year.specs.Year.{weight, list}
 use Rattle.totals.proofs.parts.apart.Statement.{statement}
 use Rattle.totals.proofs.parts.apart.Tie as tie

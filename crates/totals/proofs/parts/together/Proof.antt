@@ -4,9 +4,9 @@ use mathlib.Core.Path.{_≡_, sym, ap, ap₂, _∙_}
 use native.Mathlib.Omega.{arith}
 use lib.ListN.{length, replicate, set, length-replicate, getD-replicate}
 use borrow.Author.Needs.{needs}
-use Rattle.theory.specs.Tab.{fill, fill-more, fill-front, length-fill}
+use Rattle.theory.proofs.TabLaws.{fill, fill-more, fill-front, length-fill}
 use Rattle.year.specs.Year.{zeroCourse}
-use Rattle.year.specs.Parts.{courseFrom, coursesFrom}
+use Rattle.totals.specs.Parts.{courseFrom, coursesFrom}
 use Rattle.totals.proofs.parts.together.Statement.{statement}
 use Rattle.totals.proofs.parts.together.Tie as tie
 

@@ -4,7 +4,8 @@ use mathlib.Core.Bool.{Bool, _||_}
 use mathlib.Core.Path.{_≡_, sym, ap, _∙_}
 use native.Mathlib.Omega.{arith}
 use borrow.Author.Needs.{needs}
-use Rattle.theory.specs.Tests.{any, any-more}
+use Rattle.theory.specs.Tests.{any}
+use Rattle.theory.proofs.TestLaws.{any-more}
 use Rattle.walks.specs.Sparing.{stuck}
 use Rattle.walks.proofs.spares.blocked.Statement.{statement}
 use Rattle.walks.proofs.spares.blocked.Tie as tie

@@ -4,7 +4,7 @@ use mathlib.Core.Path.{_≡_, sym, ap, ap₂, _∙_}
 use native.Mathlib.Omega.{arith}
 use lib.ListN.{length, replicate, set, length-replicate}
 use borrow.Author.Needs.{needs}
-use Rattle.theory.specs.Tab.{fill, fill-more, fill-all, length-fill}
+use Rattle.theory.proofs.TabLaws.{fill, fill-more, fill-all, length-fill}
 use Rattle.walks.specs.Sparing.{spareIn}
 use Rattle.walks.proofs.spares.spares.Statement.{statement}
 use Rattle.walks.proofs.spares.spares.Tie as tie

@@ -3,7 +3,7 @@ use mathlib.Core.Path.{_≡_, refl, sym, ap, ap₂, _∙_}
 use native.Mathlib.Omega.{arith}
 use lib.ListN.{take}
 use borrow.Author.Needs.{needs}
-use Rattle.year.specs.Parts.{coursesFrom}
+use Rattle.totals.specs.Parts.{coursesFrom}
 use Rattle.walks.specs.Walking.{walkOver, endedOf, untilOf}
 use Rattle.walks.specs.declared.Walk.{Walk}
 use Rattle.walks.proofs.WalkLaws.{sums-small, none-walked}

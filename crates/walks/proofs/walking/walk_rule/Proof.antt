@@ -7,16 +7,18 @@ use native.Mathlib.Omega.{arith}
 use lib.Dec.{eqb}
 use lib.ListN.{length, take, length-set}
 use borrow.Author.Needs.{needs}
-use Rattle.theory.specs.Tab.{tab, length-tab}
-use Rattle.year.specs.Parts.{coursesFrom, termIn, sumsIn}
+use Rattle.theory.specs.Fold.{fold}
+use Rattle.theory.specs.Tab.{tab}
+use Rattle.theory.proofs.TabLaws.{length-tab}
+use Rattle.totals.specs.Parts.{coursesFrom, termIn, sumsIn}
 use Rattle.year.specs.declared.Sums.{Sums}
 use Rattle.year.specs.declared.Term.{Term}
 use Rattle.rules.specs.declared.Outcome.{Outcome}
 use Rattle.walks.specs.Sparing.{spareIn}
-use Rattle.bounds.specs.Turns.{overFirst}
+use Rattle.frame.specs.Bounds.{boundsOver}
 use Rattle.walks.specs.Walking.{walkOver, begunOf, untilOf, endedOf, walkedAt}
 use Rattle.walks.proofs.SparingLaws.{spare-stored}
-use Rattle.bounds.proofs.TurnLaws.{goes-on, turn, finish}
+use Rattle.frame.proofs.BoundsOver.{goes-on, term-turn, over-finish}
 use Rattle.walks.proofs.WalkLaws.{sums-small}
 use Rattle.walks.proofs.walking.walk_rule.Statement.{statement}
 use Rattle.walks.proofs.walking.walk_rule.Tie as tie
@@ -26,7 +28,7 @@ atTerm rule u w l o n = walkedAt rule u (coursesFrom w l) o n
 
 abbrev Inv-loop : tie.InvT-loop
 Inv-loop rule m n weight list order sums z₀ spare₀ j₀ z spare j =
-    (j ≤ m) × (length (z .term) ≡ 16) × (z ≡ overFirst (atTerm rule sums weight list order n) z₀ j) × (spare ≡ tab 16 (spareIn (z .term) sums))
+    (j ≤ m) × (length (z .term) ≡ 16) × (z ≡ boundsOver (atTerm rule sums weight list order n) z₀ j) × (spare ≡ tab 16 (spareIn (z .term) sums))
 
 abbrev μ-loop : tie.MeasureT-loop
 μ-loop rule m n weight list order sums z₀ spare₀ j₀ z spare j = m - j
@@ -48,7 +50,7 @@ spares-requires : tie.Need-spares-requires Inv-loop μ-loop
 spares-requires c κs = free-small (c .before .before .before .before)
 
 loop-holds : tie.Need-loop-holds Inv-loop μ-loop
-unfolding overFirst
+unfolding fold
 loop-holds c = (search needs, search needs, refl, c .spares .ensures)
 
 mul-t : tie.Need-mul-t Inv-loop μ-loop
@@ -111,7 +113,7 @@ loop-again c =
     ∙ ap (λ s. endedOf (a .rule) (termIn (z .term) j) (walkOver cs j (untilOf (a .rule) (termIn (z .term) j)) (take (a .n) (a .order .now)) (begunOf s (sumsIn (a .t5) j)))) (l .loop .inv .3) in (
       omega (arith, on t),
       length-set (z .term) j (o .term) ∙ l .loop .inv .1,
-      turn (atTerm (a .rule) (a .t5) (a .weight .now) (a .list .now) (a .order .now) (a .n)) (a .b) j z o (l .loop .inv .2) (on t .1) is,
+      term-turn (atTerm (a .rule) (a .t5) (a .weight .now) (a .list .now) (a .order .now) (a .n)) (a .b) j z o (l .loop .inv .2) (on t .1) is,
       spare-stored (z .term) (a .t5) (l .loop .spare) j (c .before .spare .result) (o .term) (omega (arith, few t)) (l .loop .inv .3) (c .before .spare .ensures),
     )
 
@@ -119,7 +121,7 @@ returns : tie.Need-returns Inv-loop μ-loop
 returns c =
     let l = c .before in
     let a = l .before .before .before .before .before .before .args in
-    finish (atTerm (a .rule) (a .t5) (a .weight .now) (a .list .now) (a .order .now) (a .n)) (a .b) (l .loop .j) (a .m) (l .loop .z) (l .loop .inv .0) (l .loop .inv .2) (c .loop-test .left)
+    over-finish (atTerm (a .rule) (a .t5) (a .weight .now) (a .list .now) (a .order .now) (a .n)) (a .b) (l .loop .j) (a .m) (l .loop .z) (l .loop .inv .0) (l .loop .inv .2) (c .loop-test .left)
 
 pub walk-rule-spec : {M : Type 1} → statement M
 walk-rule-spec =

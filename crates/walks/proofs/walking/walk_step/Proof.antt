@@ -5,9 +5,10 @@ use mathlib.Core.Path.{_≡_, sym, ap, ap₂, _∙_}
 use native.Mathlib.Omega.{arith}
 use borrow.Author.Tests.{not-true, not-false}
 use borrow.Author.Needs.{needs}
-use Rattle.theory.specs.Tests.{any, and-true}
+use Rattle.theory.specs.Tests.{any}
+use Rattle.theory.proofs.TestLaws.{and-true}
 use Rattle.theory.specs.Tab.{tab}
-use Rattle.theory.specs.Bits.{has-le}
+use Rattle.theory.proofs.BitLaws.{has-le}
 use Rattle.year.specs.Year.{lists, isFixed, isOpen}
 use Rattle.rules.specs.Spares.{blocked, charged, stops}
 use Rattle.walks.specs.Sparing.{stuck, leftAt}

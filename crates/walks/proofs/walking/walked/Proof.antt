@@ -5,8 +5,8 @@ use mathlib.Core.Path.{_≡_, sym, ap, _∙_}
 use native.Mathlib.Omega.{arith}
 use lib.ListN.{getD, take, drop}
 use borrow.Author.Needs.{needs}
-use Rattle.year.specs.Parts.{coursesFrom}
-use Rattle.year.proofs.PartLaws.{course-in}
+use Rattle.totals.specs.Parts.{coursesFrom}
+use Rattle.totals.proofs.PartLaws.{course-in}
 use Rattle.walks.specs.Walking.{walkOver, stepped}
 use Rattle.walks.proofs.WalkLaws.{left, live-left, goes-on, turn-at, ended-at}
 use Rattle.walks.proofs.walking.walked.Statement.{statement}

@@ -3,7 +3,7 @@ use mathlib.Core.Bool.{true}
 use mathlib.Core.Path.{_≡_, sym, _∙_}
 use borrow.Author.Needs.{needs}
 use borrow.Author.Tests.{not-true, not-false, leb-false}
-use Rattle.theory.specs.Tests.{or-false}
+use Rattle.theory.proofs.TestLaws.{or-false}
 use Rattle.year.specs.Sound.{isSound}
 use Rattle.year.specs.Narrow.{placeOf}
 use Rattle.year.proofs.SoundLaws.{sound-of}

@@ -1,6 +1,6 @@
 -- The term is listed, so its power is at most the list, and the difference goes through the door.
 use borrow.Author.Needs.{needs}
-use Rattle.theory.specs.Bits.{has-le}
+use Rattle.theory.proofs.BitLaws.{has-le}
 use Rattle.year.proofs.doors.struck.Statement.{statement}
 use Rattle.year.proofs.doors.struck.Tie as tie
 

@@ -1,0 +1,89 @@
+-- Rules on bounds one after another, on the bounds alone: where each starts, what it asks there, and what it leaves.
+use Prim.Native.Nat.{ℕ, _≤_, _<_}
+use mathlib.Core.List.{List}
+use mathlib.Core.Path.{_≡_, sym, ap, ap₂, _∙_}
+use native.Mathlib.Omega.{arith}
+use native.Mathlib.Nat.{le-refl}
+use native.Mathlib.Decide.{decLt}
+use lib.ListN.{length}
+use Rattle.theory.specs.Tab.{tab}
+use Rattle.year.specs.Year.{termAt}
+use Rattle.year.specs.Sums.{fixedCount, openCount, sumsAt}
+use Rattle.year.specs.Sound.{Sound, TermSound}
+use Rattle.year.specs.declared.Term.{Term}
+use Rattle.year.specs.declared.Sums.{Sums}
+use Rattle.year.specs.declared.Year.{Year}
+use Rattle.year.proofs.SumLaws.{counts-le, sums-read}
+use Rattle.totals.specs.Parts.{termIn, sumsIn}
+use Rattle.rules.specs.Step.{Step, overTerms}
+use Rattle.rules.specs.Round.{bounded}
+use Rattle.rules.specs.declared.Outcome.{Outcome}
+use Rattle.frame.specs.State.{held}
+use Rattle.frame.specs.Bounds.{boundsOf, withBounds, boundsOver}
+use Rattle.frame.specs.declared.State.{State}
+use Rattle.frame.specs.declared.Bounds.{Bounds}
+use Rattle.frame.proofs.BoundsOnly.{Tightens, BoundsOnly, only-self, only-then, only-over, sums-same, lists-same}
+use Rattle.frame.proofs.BoundsOver.{bounds-over}
+
+-- every entry of a sound year's bounds is within the sizes
+all-sound : (y : Year) → Sound y → (k : ℕ) → k < 16 → TermSound (termAt y k)
+all-sound y s k h = go (decLt k (y .terms))
+  where
+    go : Dec (k < y .terms) → TermSound (termAt y k)
+    go (yes l) = s .term-sound k l
+    go (no l) =
+        rw (s .term-blank k (omega (arith, l)) h)
+        (record { credits-ordered = omega arith; credits-most = omega arith; count-ordered = omega arith; count-most = omega arith })
+
+-- ---- rules in a row
+
+-- b are the bounds of step q, to which rules on bounds lead from step p
+pub record BoundsAt (p : Step) (b : Bounds) (q : Step) : Type 0 where
+  pub bounds-are : b ≡ boundsOf q
+  pub only : BoundsOnly (p .year) (q .year)
+
+pub at-start : (p : Step) (b : Bounds) → Sound (p .year) → b ≡ boundsOf p → BoundsAt p b p
+at-start p b a e = record { bounds-are = e; only = only-self (p .year) a }
+
+module _ (p : Step) (b : Bounds) (q : Step) (g : BoundsAt p b q) where
+  -- what a rule asks of the bounds
+  pub at-long : length (b .term) ≡ 16
+  at-long = ap (λ (z : Bounds). length (z .term)) (g .bounds-are) ∙ g .only .narrower .sound .term-length
+
+  pub at-sound : (k : ℕ) → k < 16 → TermSound (termIn (b .term) k)
+  at-sound k h = rw (g .bounds-are) (all-sound (q .year) (g .only .narrower .sound) k h)
+
+  -- the next rule, which f gives where only bounds have been altered
+  pub at-next : (f : List Term → ℕ → Outcome) (rule : Year → ℕ → Outcome) → Tightens rule
+      → ((y : Year) (j : ℕ) → BoundsOnly (p .year) y → j < 16 → j < y .terms → f (y .term) j ≡ rule y j)
+      → (c : Bounds) → c ≡ boundsOver f b (p .year .terms) → BoundsAt p c (overTerms (bounded rule) q)
+  at-next f rule law same c e =
+      let k = g .only in
+      let m = q .year .terms in
+      record {
+        bounds-are =
+            e
+            ∙ ap₂ (boundsOver f) (g .bounds-are) (sym (k .narrower .terms-same))
+            ∙ bounds-over f rule law q (k .narrower .sound)
+            (λ y j l h. same y j (only-then (p .year) (q .year) y k l) (omega (arith, l .narrower .sound)) h) m (le-refl m);
+        only = only-then (p .year) (q .year) (overTerms (bounded rule) q .year) k (only-over rule law q (k .narrower .sound) m (le-refl m));
+      }
+
+  -- the state with these bounds holds the step
+  pub at-end : (s : State) → s ≡ held p → withBounds s b ≡ held q
+  at-end s e =
+      let k = g .only in
+      let m = ap (λ (z : State). z .terms) e ∙ sym (k .narrower .terms-same) in
+      let n = ap (λ (z : State). z .courses) e ∙ sym (k .narrower .courses-same) in
+      let t = ap (λ (z : Bounds). z .term) (g .bounds-are) in
+      let l = ap (λ (z : State). z .list) e ∙ sym (lists-same (p .year) (q .year) k) in
+      let u = ap (λ (z : State). z .sums) e ∙ sym (sums-same (p .year) (q .year) k) in
+      let a = ap (λ (z : Bounds). z .altered) (g .bounds-are) in
+      let r = ap (λ (z : Bounds). z .rule) (g .bounds-are) in
+      λ i. record { terms = m i; courses = n i; term = t i; list = l i; sums = u i; altered = a i; rule = r i }
+
+-- ---- what the rules ask of the sums
+
+pub sums-fit : (y : Year) (u : List Sums) → Sound y → u ≡ tab 16 (sumsAt y) → (k : ℕ) → k < 16 → (sumsIn u k .placed .0 ≤ 64) × (sumsIn u k .free .0 ≤ 64)
+unfolding sumsAt fixedCount openCount
+sums-fit y u s e k h = rw (sums-read y u e k h) (omega (arith, s, counts-le y k), omega (arith, s, counts-le y k))

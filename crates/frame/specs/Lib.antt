@@ -1,0 +1,3 @@
+-- Inner, not to be believed: what contracts of the rules' code speak of.
+pub mod State
+pub mod Bounds

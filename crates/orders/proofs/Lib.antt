@@ -1,0 +1,2 @@
+-- Laws for the proofs of the code, and for those who call it.
+pub mod OrderLaws

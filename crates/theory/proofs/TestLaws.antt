@@ -1,0 +1,70 @@
+-- Laws of tests: of two, of all below n, of some below n.
+use Prim.Native.Nat.{ℕ, zero, suc, _+_, _<_}
+use mathlib.Core.Bool.{Bool, true, false, _&&_, _||_, true≢false}
+use mathlib.Core.Path.{_≡_, refl, ap, sym, _∙_}
+use native.Mathlib.Numerals.{add-one}
+use native.Mathlib.Nat.{le-refl}
+use native.Mathlib.Decide.{ℕ-discrete}
+use native.Mathlib.Omega.{arith}
+use Rattle.theory.specs.Tests.{all, any}
+
+-- ---- two tests
+
+pub and-true : (a b : Bool) → a && b ≡ true → (a ≡ true) × (b ≡ true)
+and-true true b e = (refl, e)
+and-true false b e = absurd (true≢false (sym e))
+
+pub and-of : (a b : Bool) → a ≡ true → b ≡ true → a && b ≡ true
+and-of true b p q = q
+and-of false b p q = p
+
+pub or-false : (a b : Bool) → a || b ≡ false → (a ≡ false) × (b ≡ false)
+or-false true b e = absurd (true≢false e)
+or-false false b e = (refl, e)
+
+pub all-more : (n : ℕ) (f : ℕ → Bool) → all (n + 1) f ≡ all n f && f n
+unfolding all
+all-more n f = rw add-one
+
+pub all-at : (n : ℕ) (f : ℕ → Bool) → all n f ≡ true → (i : ℕ) → i < n → f i ≡ true
+unfolding all
+all-at zero f e i h = absurd (omega arith)
+all-at (suc n) f e i h = go (ℕ-discrete i n) (λ l. all-at n f (and-true (all n f) (f n) e .0) i l)
+  where
+    go : Dec (i ≡ n) → (i < n → f i ≡ true) → f i ≡ true
+    go (yes q) ih = ap f q ∙ and-true (all n f) (f n) e .1
+    go (no d) ih = ih (omega arith)
+
+pub all-of : (n : ℕ) (f : ℕ → Bool) → ((i : ℕ) → i < n → f i ≡ true) → all n f ≡ true
+unfolding all
+all-of zero f h = refl
+all-of (suc n) f h = and-of (all n f) (f n) (all-of n f (λ i l. h i (omega arith))) (h n (le-refl (suc n)))
+
+pub any-more : (n : ℕ) (f : ℕ → Bool) → any (n + 1) f ≡ any n f || f n
+unfolding any
+any-more n f = rw add-one
+
+pub any-true : (n : ℕ) (f : ℕ → Bool) → any n f ≡ true → (k : ℕ) × (k < n) × (f k ≡ true)
+unfolding any
+any-true zero f e = absurd (true≢false (sym e))
+any-true (suc n) f e = go (any n f) refl e (λ q. any-true n f q)
+  where
+    go : (b : Bool) → any n f ≡ b → b || f n ≡ true → (any n f ≡ true → (k : ℕ) × (k < n) × (f k ≡ true)) → (k : ℕ) × (k < suc n) × (f k ≡ true)
+    go true a q ih = let r = ih a in (r .0, omega (arith, r .1), r .2)
+    go false a q ih = (n, le-refl (suc n), q)
+
+pub any-false : (n : ℕ) (f : ℕ → Bool) → any n f ≡ false → (k : ℕ) → k < n → f k ≡ false
+unfolding any
+any-false zero f e k l = absurd (omega arith)
+any-false (suc n) f e k l = go (ℕ-discrete k n) (λ q. any-false n f (or-false (any n f) (f n) e .0) k q)
+  where
+    go : Dec (k ≡ n) → (k < n → f k ≡ false) → f k ≡ false
+    go (yes q) ih = ap f q ∙ or-false (any n f) (f n) e .1
+    go (no d) ih = ih (omega arith)
+
+pub any-of : (n : ℕ) (f : ℕ → Bool) (k : ℕ) → k < n → f k ≡ true → any n f ≡ true
+any-of n f k l e = go (any n f) refl
+  where
+    go : (b : Bool) → any n f ≡ b → any n f ≡ true
+    go true q = q
+    go false q = absurd (true≢false (sym e ∙ any-false n f q k l))

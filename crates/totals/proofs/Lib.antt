@@ -1,0 +1,2 @@
+-- Laws about a year in parts.
+pub mod PartLaws
