@@ -16,7 +16,7 @@ use Rattle.year.specs.declared.Year.{Year}
 use Rattle.totals.proofs.PartLaws.{own-weights}
 use Rattle.rules.specs.Step.{live, Step}
 use Rattle.frame.specs.State.{held, yearIn, stepIn}
-use Rattle.rules.specs.Round.{rulesOf, rulesFrom, round}
+use Rattle.rules.specs.Round.{passesOf, passesFrom, round}
 use Rattle.frame.specs.declared.State.{State}
 use Rattle.rules.proofs.Leeway.{leeway, leeway-most}
 use Rattle.rules.proofs.Narrows.{Narrower, narrower-self, narrower-then}
@@ -87,12 +87,12 @@ module _ (y : Year) (w : List ℕ) (sound : Sound y) (e : w ≡ weightsOf y) whe
 
     first-same : Narrower z (firstHalf z .year)
     unfolding firstHalf
-    first-same = row-narrower (rulesOf 1 5) (lawful-part 1 5) z (live z) (narrower-self z (g .same .sound))
+    first-same = row-narrower (passesOf 1 5) (lawful-part 1 5) z (live z) (narrower-self z (g .same .sound))
 
     -- a first half that finds no plan is the round
     first-last : eqb (firstHalf z .rule) 0 ≡ false → round z ≡ firstHalf z
     unfolding secondHalf
-    first-last d = halves z ∙ row-last (rulesFrom 6) (lawful-from 6) (firstHalf z) d
+    first-last d = halves z ∙ row-last (passesFrom 6) (lawful-from 6) (firstHalf z) d
 
     module _ (r1 : State) (e1 : r1 ≡ held (firstHalf z)) where
       st1 : Stage y r1 (firstHalf z)

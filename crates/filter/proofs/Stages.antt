@@ -11,7 +11,7 @@ use Rattle.year.specs.declared.Year.{Year}
 use Rattle.totals.proofs.PartLaws.{course-in}
 use Rattle.frame.specs.State.{held, yearIn, stepIn}
 use Rattle.rules.specs.Step.{Step}
-use Rattle.rules.specs.Round.{inRow, rulesOf}
+use Rattle.rules.specs.Round.{inRow, passesOf}
 use Rattle.frame.specs.declared.State.{State}
 use Rattle.rules.proofs.Narrows.{Narrower, credits-same}
 use Rattle.frame.proofs.StateLaws.{year-held, step-held, sound-held, held-self}
@@ -52,8 +52,8 @@ module _ (w : List ℕ) (y : Year) (own : Own w y) (r : State) (x : Step) (s : S
   stage-rule = ap (λ (q : State). q .rule) (s .is)
 
   -- the next rules
-  pub stage-row : (a b : ℕ) (q : State) → q ≡ held (inRow (rulesOf a b) (stepIn w r)) → Stage y q (inRow (rulesOf a b) x)
+  pub stage-row : (a b : ℕ) (q : State) → q ≡ held (inRow (passesOf a b) (stepIn w r)) → Stage y q (inRow (passesOf a b) x)
   stage-row a b q e = record {
-    is = e ∙ ap (λ t. held (inRow (rulesOf a b) t)) stage-step;
-    same = row-narrower (rulesOf a b) (lawful-part a b) y x (s .same);
+    is = e ∙ ap (λ t. held (inRow (passesOf a b) t)) stage-step;
+    same = row-narrower (passesOf a b) (lawful-part a b) y x (s .same);
   }

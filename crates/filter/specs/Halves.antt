@@ -2,13 +2,13 @@
 use mathlib.Core.Path.{_≡_, refl}
 use Rattle.year.specs.declared.Year.{Year}
 use Rattle.rules.specs.Step.{live, Step}
-use Rattle.rules.specs.Round.{inRow, rulesOf, rulesFrom, round}
+use Rattle.rules.specs.Round.{inRow, passesOf, passesFrom, round}
 
 unfoldable pub firstHalf : Year → Step
-firstHalf y = inRow (rulesOf 1 5) (live y)
+firstHalf y = inRow (passesOf 1 5) (live y)
 
 unfoldable pub secondHalf : Step → Step
-secondHalf p = inRow (rulesFrom 6) p
+secondHalf p = inRow (passesFrom 6) p
 
 pub halves : (y : Year) → round y ≡ secondHalf (firstHalf y)
 unfolding round firstHalf secondHalf

@@ -24,7 +24,7 @@ use Rattle.year.proofs.DoorLaws.{term-same, term-other}
 use Rattle.rules.specs.Step.{goes, then, live, outcome, outcomeOf, put, overTo, Step}
 use Rattle.rules.specs.Bounds.{rule4, rule5}
 use Rattle.rules.specs.Spares.{spare, spares, table, stops, openOf, walkOf, up, rule6, rule7, rule8, rule9}
-use Rattle.rules.specs.Round.{bounded, inRow, rulesOf}
+use Rattle.rules.specs.Round.{bounded, inRow, passesOf}
 use Rattle.rules.specs.declared.Outcome.{Outcome}
 use Rattle.rules.specs.declared.Until.{Until}
 use Rattle.rules.specs.declared.Until.the-variants as until
@@ -117,10 +117,10 @@ room-made z j s l =
 
 module _ (y : Year) (sound : Sound y) where
   abbrev after : ℕ → Step
-  after a = inRow (rulesOf 1 a) (live y)
+  after a = inRow (passesOf 1 a) (live y)
 
   narrower-after : (a : ℕ) → Narrower y (after a .year)
-  narrower-after a = row-narrower (rulesOf 1 a) (lawful-part 1 a) y (live y) (narrower-self y sound)
+  narrower-after a = row-narrower (passesOf 1 a) (lawful-part 1 a) y (live y) (narrower-self y sound)
 
   module _ (alive : after 4 .rule ≡ 0) where
     abbrev Roomy : Year → Type 0

@@ -17,7 +17,7 @@ use Rattle.rules.specs.Bounds.{rule1, rule2, rule4, rule5}
 use Rattle.rules.specs.Lists.{rule3, rule10}
 use Rattle.rules.specs.Spares.{rule6, rule7, rule8, rule9}
 use Rattle.rules.specs.Packing.{rule11}
-use Rattle.rules.specs.Round.{bounded, once, passes, inRow, rulesOf, rulesFrom, round}
+use Rattle.rules.specs.Round.{bounded, once, passes, inRow, passesOf, passesFrom, round}
 use Rattle.rules.proofs.Narrows.{Narrower, narrower-then, Narrows, quiet, narrows-rest, narrows-next, next-dead}
 use Rattle.rules.proofs.Steps.{narrows-1, narrows-2, narrows-3, narrows-4, narrows-5, narrows-6, narrows-7, narrows-8, narrows-9, narrows-10, narrows-11, narrows-terms}
 use Rattle.rules.proofs.PlansKept.{PlansKept}
@@ -157,10 +157,10 @@ row-narrower ps laws y = row-keeps (λ (t : Step). Narrower y (t .year)) (λ p l
 
 -- ---- rules a to b of the round
 
-pub lawful-part : (a b : ℕ) → Each Pass (rulesOf a b)
+pub lawful-part : (a b : ℕ) → Each Pass (passesOf a b)
 lawful-part a b = each-take Pass (b + 1 - a) (drop (a - 1) passes) (each-drop Pass (a - 1) passes lawful)
 
-pub lawful-from : (a : ℕ) → Each Pass (rulesFrom a)
+pub lawful-from : (a : ℕ) → Each Pass (passesFrom a)
 lawful-from a = each-drop Pass (a - 1) passes lawful
 
 -- ---- a round

@@ -39,12 +39,12 @@ abbrev pub inRow : List (Step → Step) → Step → Step
 inRow [] s = s
 inRow (p ∷ ps) s = inRow ps (p s)
 
--- rules a to b alone, and rule a and all behind it
-abbrev pub rulesOf : ℕ → ℕ → List (Step → Step)
-rulesOf a b = take (b + 1 - a) (drop (a - 1) passes)
+-- the passes at places a to b of the round, and those from place a on
+abbrev pub passesOf : ℕ → ℕ → List (Step → Step)
+passesOf a b = take (b + 1 - a) (drop (a - 1) passes)
 
-abbrev pub rulesFrom : ℕ → List (Step → Step)
-rulesFrom a = drop (a - 1) passes
+abbrev pub passesFrom : ℕ → List (Step → Step)
+passesFrom a = drop (a - 1) passes
 
 unfoldable pub round : Year → Step
 round y = inRow passes (live y)

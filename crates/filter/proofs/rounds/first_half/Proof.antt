@@ -6,7 +6,7 @@ use borrow.Author.Tests.{ne-eqb}
 use Rattle.year.specs.declared.Year.{Year}
 use Rattle.rules.specs.Step.{live, Step}
 use Rattle.frame.specs.State.{held, yearIn}
-use Rattle.rules.specs.Round.{inRow, rulesOf}
+use Rattle.rules.specs.Round.{inRow, passesOf}
 use Rattle.rules.proofs.Narrows.{narrower-self}
 use Rattle.rules.proofs.Passes.{lawful-part, row-last}
 use Rattle.filter.specs.Halves.{firstHalf}
@@ -29,10 +29,10 @@ s0 : (b : tie.Start) → Stage (y b) (b .args .s) (live (y b))
 s0 b = record { is = b .pre .1 .1 .0; same = narrower-self (y b) (b .pre .1 .0) }
 
 abbrev x2 : tie.Start → Step
-x2 b = inRow (rulesOf 1 2) (live (y b))
+x2 b = inRow (passesOf 1 2) (live (y b))
 
 abbrev x3 : tie.Start → Step
-x3 b = inRow (rulesOf 1 3) (live (y b))
+x3 b = inRow (passesOf 1 3) (live (y b))
 
 s2 : (c : tie.After-rules-1-2) → let b = c .before .before in Stage (y b) (c .rules-1-2 .result) (x2 b)
 s2 c =
@@ -59,7 +59,7 @@ returns c =
     let b = a .before .before in
     let x = x2 b in
     let d = ne-eqb (x .rule) 0 (λ e. c .if1 .taken (stage-rule (w b) (y b) (own b) (a .rules-1-2 .result) x (s2 a) ∙ e)) in
-    s2 a .is ∙ ap held (sym (row-last (rulesOf 3 5) (lawful-part 3 5) x d))
+    s2 a .is ∙ ap held (sym (row-last (passesOf 3 5) (lawful-part 3 5) x d))
 
 rule-3-requires : tie.Need-rule-3-requires
 rule-3-requires c κs =

@@ -6,7 +6,7 @@ use borrow.Author.Tests.{ne-eqb}
 use Rattle.year.specs.declared.Year.{Year}
 use Rattle.frame.specs.State.{held, yearIn, stepIn}
 use Rattle.rules.specs.Step.{Step}
-use Rattle.rules.specs.Round.{inRow, rulesOf, rulesFrom}
+use Rattle.rules.specs.Round.{inRow, passesOf, passesFrom}
 use Rattle.rules.proofs.Narrows.{narrower-self}
 use Rattle.rules.proofs.Passes.{lawful-from, row-last}
 use Rattle.filter.specs.Halves.{secondHalf}
@@ -32,10 +32,10 @@ s5 : (b : tie.Start) → Stage (y b) (b .args .s) (x5 b)
 s5 b = record { is = b .pre .1 .1 .0; same = narrower-self (y b) (b .pre .1 .0) }
 
 abbrev x9 : tie.Start → Step
-x9 b = inRow (rulesOf 6 9) (x5 b)
+x9 b = inRow (passesOf 6 9) (x5 b)
 
 abbrev x10 : tie.Start → Step
-x10 b = inRow (rulesOf 6 10) (x5 b)
+x10 b = inRow (passesOf 6 10) (x5 b)
 
 s9 : (c : tie.After-rules-6-to-9) → let b = c .before .before in Stage (y b) (c .rules-6-to-9 .result) (x9 b)
 s9 c =
@@ -60,7 +60,7 @@ returns c =
     let b = a .before .before in
     let x = x9 b in
     let d = ne-eqb (x .rule) 0 (λ e. c .if1 .taken (stage-rule (w b) (y b) (own b) (a .rules-6-to-9 .result) x (s9 a) ∙ e)) in
-    s9 a .is ∙ ap held (sym (row-last (rulesFrom 10) (lawful-from 10) x d))
+    s9 a .is ∙ ap held (sym (row-last (passesFrom 10) (lawful-from 10) x d))
 
 rule-10-requires : tie.Need-rule-10-requires
 rule-10-requires c κs =
@@ -83,7 +83,7 @@ returns-2 c =
     let a = c .before in
     let b = a .before .before .before .before .before in
     let x = x10 b in
-    c .rule-11 .ensures ∙ ap (λ (p : Step). held (inRow (rulesOf 11 11) p)) (stage-step (w b) (y b) (own b) (a .rule-10 .result) x (s10 a))
+    c .rule-11 .ensures ∙ ap (λ (p : Step). held (inRow (passesOf 11 11) p)) (stage-step (w b) (y b) (own b) (a .rule-10 .result) x (s10 a))
 
 pub second-half-spec : {M : Type 1} → statement M
 second-half-spec =
