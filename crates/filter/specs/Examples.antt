@@ -1,4 +1,4 @@
--- Narrows filterings by computation: rows 1 to 5 of the paper's table; small years on which each rule finds no plan or makes the
+-- Whole filterings by computation: rows 1 to 5 of the paper's table; small years on which each rule finds no plan or makes the
 -- difference; and for each of the paper's traps a year that the trapped version answers otherwise.
 use Prim.Native.Nat.{ℕ}
 use mathlib.Core.List.{List, [], _∷_}

@@ -1,3 +1,3 @@
--- Rule 11 as the code computes it.
+-- Inner, not to be believed: rule 11 as the code computes it.
 pub mod Bins
 pub mod Sizes

@@ -51,7 +51,7 @@ module _ (f : Year → ℕ → Step) (If : Year → Type 0) (n : ℕ) (kept : (z
 abbrev pub AtTerms : (Year → Step → Type 0) → (Year → ℕ → Step) → Type 0
 AtTerms P f = (z : Year) (j : ℕ) → Sound z → j < z .terms → P z (f z j)
 
--- a rule that keeps the plans at each term, and leaves a narrows year, keeps them over all terms
+-- a rule that keeps the plans at each term, and narrows, keeps them over all terms
 pub kept-terms : (f : Year → ℕ → Step) → AtTerms PlansKept f → AtTerms Narrows f → (y : Year) (s : Step) → Sound (s .year) → PlansKept y s → PlansKept y (overTerms f s)
 kept-terms f kept narrows y s sound a =
     kept-over f (Narrower (s .year)) (s .year .terms) (λ z k i l. kept z k (i .sound) (omega (arith, i .terms-same)))

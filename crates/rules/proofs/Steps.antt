@@ -1,4 +1,4 @@
--- Every step of the eleven rules leaves a narrows year: there are two kinds, one on a term's bounds and one on a course's list.
+-- Every step of the eleven rules narrows the year it is given, or leaves it: there are two kinds, one on a term's bounds and one on a course's list.
 use Prim.Native.Nat.{ℕ, _+_, _-_, _/_, _^_, _≤_, _<_, max, min}
 use mathlib.Core.Bool.{Bool, true, false, not, _||_, true≢false}
 use mathlib.Core.Path.{_≡_, refl, sym, ap, _∙_}

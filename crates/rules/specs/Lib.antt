@@ -1,4 +1,4 @@
--- The eleven rules of a round, family by family.
+-- To be believed: the eleven rules of a round, family by family.
 pub mod Step
 pub mod Bounds
 pub mod Lists

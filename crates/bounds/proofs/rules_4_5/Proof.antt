@@ -17,31 +17,31 @@ from b = stepIn (b .args .weight .now) (b .args .s)
 starts : (c : tie.After-bounds-of) → BoundsAt (from (c .before .before .before)) (c .bounds-of .result) (from (c .before .before .before))
 starts c = let b = c .before .before .before in at-start (from b) (c .bounds-of .result) (b .pre .0) (c .bounds-of .ensures)
 
-fourth : (c : tie.After-own-rule) → BoundsAt (from (c .before .before .before .before)) (c .own-rule .result) (overTerms (bounded rule4) (from (c .before .before .before .before)))
+fourth : (c : tie.After-over-own-sums) → BoundsAt (from (c .before .before .before .before)) (c .over-own-sums .result) (overTerms (bounded rule4) (from (c .before .before .before .before)))
 fourth c =
     let b = c .before .before .before .before in
     let w = b .args .weight .now in
-    row-4 (from b) (c .before .bounds-of .result) (from b) (starts (c .before)) (b .args .s .sums) (sums-held w (b .args .s) (b .pre .1)) (c .own-rule .result) (c .own-rule .ensures)
+    row-4 (from b) (c .before .bounds-of .result) (from b) (starts (c .before)) (b .args .s .sums) (sums-held w (b .args .s) (b .pre .1)) (c .over-own-sums .result) (c .over-own-sums .ensures)
 
 bounds-of-requires : tie.Need-bounds-of-requires
 bounds-of-requires c κs = search needs
 
-own-rule-requires : tie.Need-own-rule-requires
-own-rule-requires c κs =
+over-own-sums-requires : tie.Need-over-own-sums-requires
+over-own-sums-requires c κs =
     let b = c .before .before .before in
     let w = b .args .weight .now in (
       (b .pre .0 .terms-most, at-long (from b) (c .bounds-of .result) (from b) (starts c)),
       sums-fit (yearIn w (b .args .s)) (b .args .s .sums) (b .pre .0) (sums-held w (b .args .s) (b .pre .1)),
     )
 
-cast-shared-rule : tie.Need-cast-shared-rule
-cast-shared-rule c = search needs
+cast-over-other-terms : tie.Need-cast-over-other-terms
+cast-over-other-terms c = search needs
 
-shared-rule-requires : tie.Need-shared-rule-requires
-shared-rule-requires c κs =
+over-other-terms-requires : tie.Need-over-other-terms-requires
+over-other-terms-requires c κs =
     let b = c .before .before .before .before .before in (
-      (b .pre .0 .terms-most, at-long (from b) (c .before .own-rule .result) _ (fourth (c .before))),
-      at-sound (from b) (c .before .own-rule .result) _ (fourth (c .before)),
+      (b .pre .0 .terms-most, at-long (from b) (c .before .over-own-sums .result) _ (fourth (c .before))),
+      at-sound (from b) (c .before .over-own-sums .result) _ (fourth (c .before)),
     )
 
 with-bounds-requires : tie.Need-with-bounds-requires
@@ -50,8 +50,8 @@ with-bounds-requires c κs = search needs
 returns : tie.Need-returns
 returns c =
     let b = c .before .before .before .before .before .before .before in
-    let r = c .before .shared-rule .result in
-    let fifth = row-5 (from b) (c .before .before .before .own-rule .result) _ (fourth (c .before .before .before)) r (c .before .shared-rule .ensures) in
+    let r = c .before .over-other-terms .result in
+    let fifth = row-5 (from b) (c .before .before .before .over-own-sums .result) _ (fourth (c .before .before .before)) r (c .before .over-other-terms .ensures) in
     c .with-bounds .ensures ∙ at-end (from b) r _ fifth (b .args .s) (b .pre .1)
 
 pub rules-4-5-spec : {M : Type 1} → statement M
@@ -59,8 +59,8 @@ rules-4-5-spec =
     tie.close
     (tie.spec
     bounds-of-requires
-    own-rule-requires
-    cast-shared-rule
-    shared-rule-requires
+    over-own-sums-requires
+    cast-over-other-terms
+    over-other-terms-requires
     with-bounds-requires
     returns)

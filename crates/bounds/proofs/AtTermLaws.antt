@@ -3,11 +3,10 @@ use Prim.Native.Nat.{ℕ, zero, suc, _+_, _-_, _≤_, _<_}
 use mathlib.Core.List.{List}
 use mathlib.Core.Path.{_≡_, refl, ap, ap₂, _∙_}
 use native.Mathlib.Omega.{arith}
-use native.Mathlib.Decide.{ℕ-discrete, decLt}
-use lib.Dec.{eqb, ltb}
+use native.Mathlib.Decide.{ℕ-discrete}
+use lib.Dec.{ltb}
 use lib.ListN.{length, set}
 use lib.Seq.{getD-set-same, getD-set-other}
-use Rattle.theory.proofs.ChoiceLaws.{choose-any}
 use Rattle.theory.specs.Sum.{sum}
 use Rattle.theory.proofs.SumLaws.{sum-more, sum-le-mul, sum-change, sum-term-le}
 use Rattle.theory.specs.Others.{others}
@@ -21,10 +20,11 @@ use Rattle.year.specs.declared.Year.{Year}
 use Rattle.totals.specs.Parts.{termIn, highIn, lowIn, leastIn, mostIn}
 use Rattle.rules.specs.Step.{outcome}
 use Rattle.rules.specs.Bounds.{rule1, rule2, rule4, rule5}
-use Rattle.rules.specs.declared.Outcome.{Outcome}
 use Rattle.rules.proofs.Steps.{credits-tighter, counts-tighter}
-use Rattle.bounds.specs.Near.{totalsTo, totalsWith, totalsAfter, firstOf, secondOf, fourthOf, fifthOf, sharedOf}
+use Rattle.bounds.specs.AtTerm.{totalsTo, totalsWith, totalsAfter, rule1Of, rule2Of, rule4Of, rule5Of, otherTermsOf}
 use Rattle.bounds.specs.declared.Totals.{Totals}
+use Rattle.bounds.specs.declared.Quantity.{Quantity}
+use Rattle.bounds.specs.declared.Quantity.the-variants.{Credits, Counts}
 
 -- ---- one entry more
 
@@ -91,22 +91,11 @@ module _ (t : List Term) (j : ℕ) (l : j < 16) where
         ∙ (λ i. record { low = record { 0 = a i }; high = record { 0 = b i }; least = record { 0 = c i }; most = record { 0 = d i } })
 
 -- a rule on bounds leaves a term within the sizes
-pub shared-sound : (r : ℕ) (t : Term) (x : Totals) (all : ℕ) → TermSound t → TermSound (sharedOf r t x all .term)
-shared-sound r t x all s =
-    choose-any (λ (o : Outcome). TermSound (o .term)) (eqb r 2) (secondOf t x all) (fifthOf t x all)
-    (credits-tighter 2 _ t _ _ s .sound)
-    (counts-tighter 5 _ t _ _ s .sound)
+pub other-terms-sound : (q : Quantity) (t : Term) (x : Totals) (all : ℕ) → TermSound t → TermSound (otherTermsOf q t x all .term)
+other-terms-sound Credits t x all s = credits-tighter 2 _ t _ _ s .sound
+other-terms-sound Counts t x all s = counts-tighter 5 _ t _ _ s .sound
 
 -- ---- in a sound year
-
-pub all-sound : (y : Year) → Sound y → (k : ℕ) → k < 16 → TermSound (termAt y k)
-all-sound y s k h = go (decLt k (y .terms))
-  where
-    go : Dec (k < y .terms) → TermSound (termAt y k)
-    go (yes l) = s .term-sound k l
-    go (no l) =
-        rw (s .term-blank k (omega (arith, l)) h)
-        (record { credits-ordered = omega arith; credits-most = omega arith; count-ordered = omega arith; count-most = omega arith })
 
 -- entries that are 0 add nothing
 sum-past : (n m : ℕ) (f : ℕ → ℕ) → m ≤ n → ((k : ℕ) → m ≤ k → k < n → f k ≡ 0) → sum n f ≡ sum m f
@@ -128,24 +117,24 @@ module _ (y : Year) (s : Sound y) (j : ℕ) (h : j < y .terms) where
         others-split (y .terms) j (λ k. f (termAt y k)) h,
       )
 
-  pub second-is : secondOf (termAt y j) (totalsTo (y .term) 16) (allCredits y) ≡ rule2 y j
+  pub rule2-is : rule2Of (termAt y j) (totalsTo (y .term) 16) (allCredits y) ≡ rule2 y j
   unfolding rule2
-  second-is =
+  rule2-is =
       let low = others-are (λ t. t .low .0) refl in
       let high = others-are (λ t. t .high .0) refl in
       ap₂ (λ a b. outcome 2 (ltb (allCredits y) a) (termAt y j) (creditsWithin (termAt y j) (allCredits y - b) (allCredits y - a))) low high
 
-  pub fifth-is : fifthOf (termAt y j) (totalsTo (y .term) 16) (y .courses) ≡ rule5 y j
+  pub rule5-is : rule5Of (termAt y j) (totalsTo (y .term) 16) (y .courses) ≡ rule5 y j
   unfolding rule5
-  fifth-is =
+  rule5-is =
       let least = others-are (λ t. t .least .0) refl in
       let most = others-are (λ t. t .most .0) refl in
       ap₂ (λ a b. outcome 5 (ltb (y .courses) a) (termAt y j) (countsWithin (termAt y j) (y .courses - b) (y .courses - a))) least most
 
-pub first-is : (y : Year) (j : ℕ) → firstOf (termAt y j) (sumsAt y j) ≡ rule1 y j
+pub rule1-is : (y : Year) (j : ℕ) → rule1Of (termAt y j) (sumsAt y j) ≡ rule1 y j
 unfolding rule1 sumsAt fixedCredits openCredits
-first-is y j = refl
+rule1-is y j = refl
 
-pub fourth-is : (y : Year) (j : ℕ) → fourthOf (termAt y j) (sumsAt y j) ≡ rule4 y j
+pub rule4-is : (y : Year) (j : ℕ) → rule4Of (termAt y j) (sumsAt y j) ≡ rule4 y j
 unfolding rule4 sumsAt fixedCount openCount
-fourth-is y j = refl
+rule4-is y j = refl

@@ -1,7 +1,7 @@
 -- The tighter bounds are the definition's.
 use borrow.Author.Needs.{needs}
-use Rattle.bounds.proofs.near.first.Statement.{statement}
-use Rattle.bounds.proofs.near.first.Tie as tie
+use Rattle.bounds.proofs.terms.rule_1.Statement.{statement}
+use Rattle.bounds.proofs.terms.rule_1.Tie as tie
 
 credits-within-requires : tie.Need-credits-within-requires
 credits-within-requires c κs = search needs
@@ -12,5 +12,5 @@ outcome-requires c κs = search needs
 returns : tie.Need-returns
 returns c = rw (c .before .credits-within .ensures) at (c .outcome .ensures)
 
-pub first-spec : {M : Type 1} → statement M
-first-spec = tie.close (tie.spec credits-within-requires outcome-requires returns)
+pub rule-1-spec : {M : Type 1} → statement M
+rule-1-spec = tie.close (tie.spec credits-within-requires outcome-requires returns)

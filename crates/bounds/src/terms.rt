@@ -1,4 +1,5 @@
 // Rules 1, 2, 4 and 5: a term's bounds against its own sums, and against the other terms' bounds.
+use crate::Quantity;
 use crate::Totals;
 use frame::Bounds;
 use rules::Outcome;
@@ -12,7 +13,7 @@ ghost use Prim.Native.Nat.{ℕ, _-_, _≤_, _<_};
 ghost use lib.ListN.{length};
 ghost use Rattle.year.specs.Sound.{TermSound};
 ghost use Rattle.totals.specs.Parts.{termIn, sumsIn};
-ghost use Rattle.bounds.specs.Near.{totalsTo, totalsWith, totalsAfter, firstOf, secondOf, fourthOf, fifthOf, ownOf, sharedOf, ownAt, sharedAt};
+ghost use Rattle.bounds.specs.AtTerm.{totalsTo, totalsWith, totalsAfter, rule1Of, rule2Of, rule4Of, rule5Of, ownSumsOf, otherTermsOf, ownSumsAt, otherTermsAt};
 ghost use Rattle.frame.specs.Bounds.{boundsOver};
 
 fn with_term(x: Totals, t: Term) -> Totals
@@ -45,8 +46,8 @@ fn totals(term: [Term; 16]) -> Totals
     x
 }
 
-fn first(t: Term, u: Sums) -> Outcome
-    ensures { λ r. ⌜ r ≡ firstOf t u ⌝ }
+fn rule_1(t: Term, u: Sums) -> Outcome
+    ensures { λ r. ⌜ r ≡ rule1Of t u ⌝ }
 {
     frame::outcome(
         1,
@@ -56,8 +57,8 @@ fn first(t: Term, u: Sums) -> Outcome
     )
 }
 
-fn second(t: Term, x: Totals, all: u32) -> Outcome
-    ensures { λ r. ⌜ r ≡ secondOf t x all ⌝ }
+fn rule_2(t: Term, x: Totals, all: u32) -> Outcome
+    ensures { λ r. ⌜ r ≡ rule2Of t x all ⌝ }
 {
     let lows = tighter::less(x.low.0, t.low.0);
     let highs = tighter::less(x.high.0, t.high.0);
@@ -69,9 +70,9 @@ fn second(t: Term, x: Totals, all: u32) -> Outcome
     )
 }
 
-fn fourth(t: Term, u: Sums) -> Outcome
+fn rule_4(t: Term, u: Sums) -> Outcome
     requires { ⌜ (u .placed .0 ≤ 64) × (u .free .0 ≤ 64) ⌝ }
-    ensures { λ r. ⌜ r ≡ fourthOf t u ⌝ }
+    ensures { λ r. ⌜ r ≡ rule4Of t u ⌝ }
 {
     frame::outcome(
         4,
@@ -81,8 +82,8 @@ fn fourth(t: Term, u: Sums) -> Outcome
     )
 }
 
-fn fifth(t: Term, x: Totals, all: u32) -> Outcome
-    ensures { λ r. ⌜ r ≡ fifthOf t x all ⌝ }
+fn rule_5(t: Term, x: Totals, all: u32) -> Outcome
+    ensures { λ r. ⌜ r ≡ rule5Of t x all ⌝ }
 {
     let leasts = tighter::less(x.least.0, t.least.0);
     let mosts = tighter::less(x.most.0, t.most.0);
@@ -94,35 +95,37 @@ fn fifth(t: Term, x: Totals, all: u32) -> Outcome
     )
 }
 
-// Rule 1 or 4.
-fn own(rule: u32, t: Term, u: Sums) -> Outcome
+// Rule 1 for credits, rule 4 for counts.
+fn own_sums(q: Quantity, t: Term, u: Sums) -> Outcome
     requires { ⌜ (u .placed .0 ≤ 64) × (u .free .0 ≤ 64) ⌝ }
-    ensures { λ r. ⌜ r ≡ ownOf rule t u ⌝ }
+    ensures { λ r. ⌜ r ≡ ownSumsOf q t u ⌝ }
 {
-    if rule == 1 { first(t, u) } else { fourth(t, u) }
+    match q {
+        Quantity::Credits => rule_1(t, u),
+        Quantity::Counts => rule_4(t, u),
+    }
 }
 
-// Rule 2 or 5.
-fn shared(rule: u32, t: Term, x: Totals, all: u32) -> Outcome
-    ensures { λ r. ⌜ r ≡ sharedOf rule t x all ⌝ }
+// Rule 2 for credits, rule 5 for counts.
+fn other_terms(q: Quantity, t: Term, x: Totals, all: u32) -> Outcome
+    ensures { λ r. ⌜ r ≡ otherTermsOf q t x all ⌝ }
 {
-    if rule == 2 {
-        second(t, x, all)
-    } else {
-        fifth(t, x, all)
+    match q {
+        Quantity::Credits => rule_2(t, x, all),
+        Quantity::Counts => rule_5(t, x, all),
     }
 }
 
 // Rule 1 or 4 over the first m terms.
-pub fn own_rule(b: Bounds, rule: u32, m: usize, sums: [Sums; 16]) -> Bounds
+pub fn over_own_sums(b: Bounds, q: Quantity, m: usize, sums: [Sums; 16]) -> Bounds
     requires { ⌜ (m ≤ 16) × (length (b .term) ≡ 16) ⌝ }
     requires { ⌜ ((k : ℕ) → k < 16 → (sumsIn sums k .placed .0 ≤ 64) × (sumsIn sums k .free .0 ≤ 64)) ⌝ }
-    ensures { λ r. ⌜ r ≡ boundsOver (ownAt rule sums) b m ⌝ }
+    ensures { λ r. ⌜ r ≡ boundsOver (ownSumsAt q sums) b m ⌝ }
 {
     let mut z = b;
     let mut j = 0;
     while (j < m) & (z.rule == 0) {
-        let o = own(rule, z.term[j], sums[j]);
+        let o = own_sums(q, z.term[j], sums[j]);
         let v = o.term;
         z.term[j] = v;
         z.altered = z.altered | o.altered;
@@ -148,10 +151,10 @@ fn changed(x: Totals, t: Term, v: Term) -> Totals
 }
 
 // Rule 2 or 5 over the first m terms. The sums over all terms are kept up to date from term to term.
-pub fn shared_rule(b: Bounds, rule: u32, m: usize, all: u32) -> Bounds
+pub fn over_other_terms(b: Bounds, q: Quantity, m: usize, all: u32) -> Bounds
     requires { ⌜ (m ≤ 16) × (length (b .term) ≡ 16) ⌝ }
     requires { ⌜ ((k : ℕ) → k < 16 → TermSound (termIn (b .term) k)) ⌝ }
-    ensures { λ r. ⌜ r ≡ boundsOver (sharedAt rule all) b m ⌝ }
+    ensures { λ r. ⌜ r ≡ boundsOver (otherTermsAt q all) b m ⌝ }
 {
     let mut z = b;
     let term = b.term;
@@ -159,7 +162,7 @@ pub fn shared_rule(b: Bounds, rule: u32, m: usize, all: u32) -> Bounds
     let mut j = 0;
     while (j < m) & (z.rule == 0) {
         let t = z.term[j];
-        let o = shared(rule, t, x, all);
+        let o = other_terms(q, t, x, all);
         let v = o.term;
         x = changed(x, t, v);
         z.term[j] = v;

@@ -1,7 +1,7 @@
 -- The others' sums and what they leave are the definition's.
 use borrow.Author.Needs.{needs}
-use Rattle.bounds.proofs.near.fifth.Statement.{statement}
-use Rattle.bounds.proofs.near.fifth.Tie as tie
+use Rattle.bounds.proofs.terms.rule_5.Statement.{statement}
+use Rattle.bounds.proofs.terms.rule_5.Tie as tie
 
 less-requires : tie.Need-less-requires
 less-requires c κs = search needs
@@ -24,8 +24,8 @@ outcome-requires c κs = search needs
 returns : tie.Need-returns
 returns c = cc
 
-pub fifth-spec : {M : Type 1} → statement M
-fifth-spec =
+pub rule-5-spec : {M : Type 1} → statement M
+rule-5-spec =
     tie.close
     (tie.spec
     less-requires

@@ -5,10 +5,10 @@ use native.Mathlib.Omega.{arith}
 use borrow.Author.Needs.{needs}
 use Rattle.theory.specs.Sum.{sum}
 use Rattle.totals.specs.Parts.{termIn}
-use Rattle.bounds.specs.Near.{totalsTo, totalsWith}
-use Rattle.bounds.proofs.NearLaws.{totals-more, totals-fit}
-use Rattle.bounds.proofs.near.totals.Statement.{statement}
-use Rattle.bounds.proofs.near.totals.Tie as tie
+use Rattle.bounds.specs.AtTerm.{totalsTo, totalsWith}
+use Rattle.bounds.proofs.AtTermLaws.{totals-more, totals-fit}
+use Rattle.bounds.proofs.terms.totals.Statement.{statement}
+use Rattle.bounds.proofs.terms.totals.Tie as tie
 
 abbrev Inv-loop : tie.InvT-loop
 Inv-loop term x₀ k₀ x k = (k ≤ 16) × (x ≡ totalsTo term k)

@@ -1,8 +1,8 @@
 -- No difference is negative, and no sum passes its size.
 use native.Mathlib.Omega.{arith}
 use borrow.Author.Needs.{needs}
-use Rattle.bounds.proofs.near.changed.Statement.{statement}
-use Rattle.bounds.proofs.near.changed.Tie as tie
+use Rattle.bounds.proofs.terms.changed.Statement.{statement}
+use Rattle.bounds.proofs.terms.changed.Tie as tie
 
 sub-t4 : tie.Need-sub-t4
 sub-t4 c = omega arith

@@ -2,8 +2,7 @@
 use Prim.Native.Nat.{ℕ, _+_, _-_}
 use mathlib.Core.Bool.{false}
 use mathlib.Core.List.{List}
-use lib.Dec.{eqb, ltb}
-use Rattle.theory.specs.Choice.{choose}
+use lib.Dec.{ltb}
 use Rattle.theory.specs.Sum.{sum}
 use Rattle.totals.specs.Parts.{termIn, lowIn, highIn, leastIn, mostIn, sumsIn}
 use Rattle.year.specs.Tight.{creditsWithin, countsWithin}
@@ -12,6 +11,8 @@ use Rattle.year.specs.declared.Sums.{Sums}
 use Rattle.rules.specs.Step.{outcome}
 use Rattle.rules.specs.declared.Outcome.{Outcome}
 use Rattle.bounds.specs.declared.Totals.{Totals}
+use Rattle.bounds.specs.declared.Quantity.{Quantity}
+use Rattle.bounds.specs.declared.Quantity.the-variants.{Credits, Counts}
 
 -- ---- sums of bounds
 
@@ -44,33 +45,36 @@ totalsAfter x t v = record {
 
 -- ---- the rules
 
-abbrev pub firstOf : Term → Sums → Outcome
-firstOf t u = outcome 1 false t (creditsWithin t (u .fixed .0) (u .possible .0))
+abbrev pub rule1Of : Term → Sums → Outcome
+rule1Of t u = outcome 1 false t (creditsWithin t (u .fixed .0) (u .possible .0))
 
 -- the sum over the other terms is the sum over all less the term's own
-abbrev pub secondOf : Term → Totals → ℕ → Outcome
-secondOf t x all =
+abbrev pub rule2Of : Term → Totals → ℕ → Outcome
+rule2Of t x all =
     outcome 2 (ltb all (x .low .0 - t .low .0)) t
     (creditsWithin t (all - (x .high .0 - t .high .0)) (all - (x .low .0 - t .low .0)))
 
-abbrev pub fourthOf : Term → Sums → Outcome
-fourthOf t u = outcome 4 false t (countsWithin t (u .placed .0) (u .placed .0 + u .free .0))
+abbrev pub rule4Of : Term → Sums → Outcome
+rule4Of t u = outcome 4 false t (countsWithin t (u .placed .0) (u .placed .0 + u .free .0))
 
-abbrev pub fifthOf : Term → Totals → ℕ → Outcome
-fifthOf t x all =
+abbrev pub rule5Of : Term → Totals → ℕ → Outcome
+rule5Of t x all =
     outcome 5 (ltb all (x .least .0 - t .least .0)) t
     (countsWithin t (all - (x .most .0 - t .most .0)) (all - (x .least .0 - t .least .0)))
 
-abbrev pub ownOf : ℕ → Term → Sums → Outcome
-ownOf rule t u = choose (eqb rule 1) (firstOf t u) (fourthOf t u)
+-- rule 1 for credits, rule 4 for counts; and so rules 2 and 5
+abbrev pub ownSumsOf : Quantity → Term → Sums → Outcome
+ownSumsOf Credits t u = rule1Of t u
+ownSumsOf Counts t u = rule4Of t u
 
-abbrev pub sharedOf : ℕ → Term → Totals → ℕ → Outcome
-sharedOf rule t x all = choose (eqb rule 2) (secondOf t x all) (fifthOf t x all)
+abbrev pub otherTermsOf : Quantity → Term → Totals → ℕ → Outcome
+otherTermsOf Credits t x all = rule2Of t x all
+otherTermsOf Counts t x all = rule5Of t x all
 
 -- ---- at term j of an array
 
-abbrev pub ownAt : ℕ → List Sums → List Term → ℕ → Outcome
-ownAt rule u t j = ownOf rule (termIn t j) (sumsIn u j)
+abbrev pub ownSumsAt : Quantity → List Sums → List Term → ℕ → Outcome
+ownSumsAt q u t j = ownSumsOf q (termIn t j) (sumsIn u j)
 
-abbrev pub sharedAt : ℕ → ℕ → List Term → ℕ → Outcome
-sharedAt rule all t j = sharedOf rule (termIn t j) (totalsTo t 16) all
+abbrev pub otherTermsAt : Quantity → ℕ → List Term → ℕ → Outcome
+otherTermsAt q all t j = otherTermsOf q (termIn t j) (totalsTo t 16) all

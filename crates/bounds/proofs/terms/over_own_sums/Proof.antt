@@ -6,19 +6,19 @@ use native.Mathlib.Omega.{arith}
 use lib.Dec.{eqb, ltb}
 use borrow.Author.Needs.{needs}
 use Rattle.theory.specs.Fold.{fold}
-use Rattle.bounds.specs.Near.{ownAt}
+use Rattle.bounds.specs.AtTerm.{ownSumsAt}
 use Rattle.frame.specs.Bounds.{boundsOver}
 use Rattle.frame.proofs.BoundsOver.{goes-on, term-turn, over-finish}
-use Rattle.bounds.proofs.near.own_rule.Statement.{statement}
-use Rattle.bounds.proofs.near.own_rule.Tie as tie
+use Rattle.bounds.proofs.terms.over_own_sums.Statement.{statement}
+use Rattle.bounds.proofs.terms.over_own_sums.Tie as tie
 
 abbrev Inv-loop : tie.InvT-loop
-Inv-loop rule m sums z₀ j₀ z j = (j ≤ m) × (z ≡ boundsOver (ownAt rule sums) z₀ j)
+Inv-loop q m sums z₀ j₀ z j = (j ≤ m) × (z ≡ boundsOver (ownSumsAt q sums) z₀ j)
 
 abbrev μ-loop : tie.MeasureT-loop
-μ-loop rule m sums z₀ j₀ z j = m - j
+μ-loop q m sums z₀ j₀ z j = m - j
 
--- a term-turn is at a term of the array
+-- a turn is at a term of the array
 small : (l : tie.At-loop Inv-loop μ-loop) → ltb (l .loop .j) (l .before .args .m) && eqb (l .loop .z .rule) 0 ≡ true → l .loop .j < 16
 small l e = omega (arith, goes-on (l .loop .j) (l .before .args .m) (l .loop .z .rule) e .0, l .before .pre .0)
 
@@ -26,20 +26,20 @@ loop-holds : tie.Need-loop-holds Inv-loop μ-loop
 unfolding fold
 loop-holds c = (omega arith, refl)
 
-mul-own : tie.Need-mul-own Inv-loop μ-loop
-mul-own c = search needs
+mul-own-sums : tie.Need-mul-own-sums Inv-loop μ-loop
+mul-own-sums c = search needs
 
-element-copy-out-own : tie.Need-element-copy-out-own Inv-loop μ-loop
-element-copy-out-own c = omega (arith, small (c .before) (c .loop-test .taken))
+element-copy-out-own-sums : tie.Need-element-copy-out-own-sums Inv-loop μ-loop
+element-copy-out-own-sums c = omega (arith, small (c .before) (c .loop-test .taken))
 
-mul-own-2 : tie.Need-mul-own-2 Inv-loop μ-loop
-mul-own-2 c = search needs
+mul-own-sums-2 : tie.Need-mul-own-sums-2 Inv-loop μ-loop
+mul-own-sums-2 c = search needs
 
-array-copy-out-own : tie.Need-array-copy-out-own Inv-loop μ-loop
-array-copy-out-own c = omega (arith, small (c .before .before) (c .before .loop-test .taken))
+array-copy-out-own-sums : tie.Need-array-copy-out-own-sums Inv-loop μ-loop
+array-copy-out-own-sums c = omega (arith, small (c .before .before) (c .before .loop-test .taken))
 
-own-requires : tie.Need-own-requires Inv-loop μ-loop
-own-requires c κs =
+own-sums-requires : tie.Need-own-sums-requires Inv-loop μ-loop
+own-sums-requires c κs =
     let l = c .before .before .before in
     l .before .pre .1 (l .loop .j) (small l (c .before .before .loop-test .taken))
 
@@ -61,25 +61,25 @@ loop-again : tie.Need-loop-again Inv-loop μ-loop
 loop-again c =
     let l = c .before .before .before .before .before .before in
     let on = goes-on (l .loop .j) (l .before .args .m) (l .loop .z .rule) (c .before .before .before .before .before .loop-test .taken) in
-    (omega (arith, on .0), term-turn _ _ (l .loop .j) (l .loop .z) (c .before .before .own .result) (l .loop .inv .1) (on .1) (c .before .before .own .ensures))
+    (omega (arith, on .0), term-turn _ _ (l .loop .j) (l .loop .z) (c .before .before .own-sums .result) (l .loop .inv .1) (on .1) (c .before .before .own-sums .ensures))
 
 returns : tie.Need-returns Inv-loop μ-loop
 returns c =
     let l = c .before in
     over-finish _ _ (l .loop .j) (l .before .args .m) (l .loop .z) (l .loop .inv .0) (l .loop .inv .1) (c .loop-test .left)
 
-pub own-rule-spec : {M : Type 1} → statement M
-own-rule-spec =
+pub over-own-sums-spec : {M : Type 1} → statement M
+over-own-sums-spec =
     tie.close
     (tie.spec
     Inv-loop
     μ-loop
     loop-holds
-    mul-own
-    element-copy-out-own
-    mul-own-2
-    array-copy-out-own
-    own-requires
+    mul-own-sums
+    element-copy-out-own-sums
+    mul-own-sums-2
+    array-copy-out-own-sums
+    own-sums-requires
     mul-v
     element-set-from-v
     add-j

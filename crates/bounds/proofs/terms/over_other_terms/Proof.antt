@@ -10,26 +10,26 @@ use Rattle.theory.specs.Fold.{fold}
 use Rattle.year.specs.Sound.{TermSound}
 use Rattle.totals.specs.Parts.{termIn}
 use Rattle.rules.specs.declared.Outcome.{Outcome}
-use Rattle.bounds.specs.Near.{totalsTo, sharedOf, sharedAt}
+use Rattle.bounds.specs.AtTerm.{totalsTo, otherTermsOf, otherTermsAt}
 use Rattle.frame.specs.Bounds.{boundsOver}
 use Rattle.frame.specs.declared.Bounds.{Bounds}
 use Rattle.bounds.specs.declared.Totals.{Totals}
-use Rattle.bounds.proofs.NearLaws.{totals-fit, entry-le, set-sound, totals-set, shared-sound}
+use Rattle.bounds.proofs.AtTermLaws.{totals-fit, entry-le, set-sound, totals-set, other-terms-sound}
 use Rattle.frame.proofs.BoundsOver.{goes-on, over-long, term-turn, over-finish}
-use Rattle.bounds.proofs.near.shared_rule.Statement.{statement}
-use Rattle.bounds.proofs.near.shared_rule.Tie as tie
+use Rattle.bounds.proofs.terms.over_other_terms.Statement.{statement}
+use Rattle.bounds.proofs.terms.over_other_terms.Tie as tie
 
 abbrev Inv-loop : tie.InvT-loop
-Inv-loop rule m all z₀ x₀ j₀ z x j =
-    (j ≤ m) × (z ≡ boundsOver (sharedAt rule all) z₀ j) × (x ≡ totalsTo (z .term) 16) × ((k : ℕ) → k < 16 → TermSound (termIn (z .term) k))
+Inv-loop q m all z₀ x₀ j₀ z x j =
+    (j ≤ m) × (z ≡ boundsOver (otherTermsAt q all) z₀ j) × (x ≡ totalsTo (z .term) 16) × ((k : ℕ) → k < 16 → TermSound (termIn (z .term) k))
 
 abbrev μ-loop : tie.MeasureT-loop
-μ-loop rule m all z₀ x₀ j₀ z x j = m - j
+μ-loop q m all z₀ x₀ j₀ z x j = m - j
 
 abbrev start : tie.At-loop Inv-loop μ-loop → tie.Start Inv-loop μ-loop
 start l = l .before .before .before
 
--- a term-turn is at a term of the array
+-- a turn is at a term of the array
 on : (l : tie.At-loop Inv-loop μ-loop) → ltb (l .loop .j) (start l .args .m) && eqb (l .loop .z .rule) 0 ≡ true → (l .loop .j < start l .args .m) × (eqb (l .loop .z .rule) 0 ≡ true)
 on l e = goes-on (l .loop .j) (start l .args .m) (l .loop .z .rule) e
 
@@ -41,12 +41,12 @@ long l = ap (λ (z : Bounds). length (z .term)) (l .loop .inv .1) ∙ over-long 
 
 -- the outcome of a term-turn with totals x; its term is within the sizes
 abbrev outcomeAt : tie.At-loop Inv-loop μ-loop → Totals → Outcome
-outcomeAt l x = sharedOf (start l .args .rule) (termIn (l .loop .z .term) (l .loop .j)) x (start l .args .all)
+outcomeAt l x = otherTermsOf (start l .args .q) (termIn (l .loop .z .term) (l .loop .j)) x (start l .args .all)
 
 new : (l : tie.At-loop Inv-loop μ-loop) → l .loop .j < 16 → (o : Outcome) → o ≡ outcomeAt l (l .loop .x) → TermSound (o .term)
 new l h o e =
     subst (λ (q : Outcome). TermSound (q .term)) (sym e)
-    (shared-sound (start l .args .rule) (termIn (l .loop .z .term) (l .loop .j)) (l .loop .x) (start l .args .all) (l .loop .inv .3 (l .loop .j) h))
+    (other-terms-sound (start l .args .q) (termIn (l .loop .z .term) (l .loop .j)) (l .loop .x) (start l .args .all) (l .loop .inv .3 (l .loop .j) h))
 
 totals-requires : tie.Need-totals-requires Inv-loop μ-loop
 totals-requires c κs = search needs
@@ -61,14 +61,14 @@ mul-t c = search needs
 element-copy-out-t : tie.Need-element-copy-out-t Inv-loop μ-loop
 element-copy-out-t c = omega (arith, small (c .before) (c .loop-test .taken))
 
-shared-requires : tie.Need-shared-requires Inv-loop μ-loop
-shared-requires c κs = search needs
+other-terms-requires : tie.Need-other-terms-requires Inv-loop μ-loop
+other-terms-requires c κs = search needs
 
 changed-requires : tie.Need-changed-requires Inv-loop μ-loop
 changed-requires c κs =
     let l = c .before .before .before .before in
     let h = small l (c .before .before .before .loop-test .taken) in (
-      new l h (c .before .shared .result) (c .before .shared .ensures),
+      new l h (c .before .other-terms .result) (c .before .other-terms .ensures),
       (
         entry-le (l .loop .z .term) (l .loop .j) h (l .loop .x) (l .loop .inv .2),
         totals-fit (l .loop .z .term) 16 (l .loop .x) (l .loop .inv .3) (omega arith) (l .loop .inv .2),
@@ -94,8 +94,8 @@ loop-again c =
     let l = c .before .before .before .before .before .before in
     let e = c .before .before .before .before .before .loop-test .taken in
     let h = small l e in
-    let o = c .before .before .before .shared .result in
-    let q = c .before .before .before .shared .ensures in
+    let o = c .before .before .before .other-terms .result in
+    let q = c .before .before .before .other-terms .ensures in
     let z = l .loop .z in (
       omega (arith, on l e .0),
       term-turn _ _ (l .loop .j) z o (l .loop .inv .1) (on l e .1) (q ∙ ap (outcomeAt l) (l .loop .inv .2)),
@@ -108,8 +108,8 @@ returns c =
     let l = c .before in
     over-finish _ _ (l .loop .j) (start l .args .m) (l .loop .z) (l .loop .inv .0) (l .loop .inv .1) (c .loop-test .left)
 
-pub shared-rule-spec : {M : Type 1} → statement M
-shared-rule-spec =
+pub over-other-terms-spec : {M : Type 1} → statement M
+over-other-terms-spec =
     tie.close
     (tie.spec
     Inv-loop
@@ -118,7 +118,7 @@ shared-rule-spec =
     loop-holds
     mul-t
     element-copy-out-t
-    shared-requires
+    other-terms-requires
     changed-requires
     mul-v
     element-set-from-v
