@@ -1,26 +1,18 @@
--- Rules by themselves, by computation: rows 6 to 9 of the paper's table, and two of its traps at the rule they are about.
+-- Rules by themselves, by computation: rows 6 to 9 of the paper's table, and its traps at the rule they are about.
 use Prim.Native.Nat.{ℕ, _+_, _/_}
 use mathlib.Core.List.{List, [], _∷_, _++_}
 use mathlib.Core.Path.{_≡_, refl}
 use lib.ListN.{length, replicate, take}
-use Rattle.theory.specs.Fold.{fold}
-use Rattle.theory.specs.Sum.{sum}
-use Rattle.theory.specs.Tests.{any}
-use Rattle.theory.specs.Tab.{tab}
-use Rattle.theory.specs.Order.{rank, orderTo, keep}
-use Rattle.theory.specs.Walk.{walk}
-use Rattle.theory.specs.Packing.{share}
 use Rattle.year.specs.Year.{termOf, courseOf, zeroTerm, zeroCourse, list}
-use Rattle.year.specs.Sums.{fixedCredits, openCredits, fixedCount, openCount, isPlaced}
-use Rattle.year.specs.Tight.{countsWithin}
 use Rattle.theory.specs.Largest.{largest}
 use Rattle.year.specs.declared.Term.{Term}
 use Rattle.year.specs.declared.Course.{Course}
 use Rattle.year.specs.declared.Year.{Year}
-use Rattle.rules.specs.Step.{outcome}
-use Rattle.rules.specs.Lists.{verdict3, rule3Course, rule3}
-use Rattle.rules.specs.Spares.{spares, blocked, charged, walkOf, down, up, rule6, rule7}
+use Rattle.rules.specs.Lists.{rule3}
+use Rattle.rules.specs.Spares.{rule6, rule7}
 use Rattle.rules.specs.Packing.{room, shares, roundedUp}
+use Rattle.rules.specs.Round.{round}
+use Rattle.rules.specs.Computing.{computing}
 
 -- ---- years by their terms and courses
 
@@ -53,11 +45,11 @@ abbrev pub leastCount : Year → ℕ
 leastCount y = rule6 y 0 .term .least .0
 
 row6 : leastCount six ≡ 4
-unfolding sum any tab rank orderTo keep walk fixedCredits fixedCount openCount countsWithin outcome spares blocked charged walkOf down rule6
+unfolding computing
 row6 = refl
 
 row7 : leastCount seven ≡ 3
-unfolding sum any tab rank orderTo keep walk fixedCredits fixedCount openCount countsWithin outcome spares blocked charged walkOf down rule6
+unfolding computing
 row7 = refl
 
 -- ---- rows 8 and 9: the largest rounded quotient
@@ -70,21 +62,26 @@ abbrev pub largestQuotient : Year → ℕ
 largestQuotient y = largest (room y / 2 + 1) (λ t. roundedUp (shares y (room y) t) (room y))
 
 row8 : largestQuotient (three 6) ≡ 3
-unfolding sum any share fixedCredits isPlaced largest shares
+unfolding computing
 row8 = refl
 
 row9 : largestQuotient (three 5) ≡ 2
-unfolding sum any share fixedCredits isPlaced largest shares
+unfolding computing
 row9 = refl
 
--- ---- traps
+-- ---- traps; that a course charges every other term that lists it is row 7
+
+-- rule 4 comes before the walks: with rule 6 in its place this year would be refused under rule 6
+in-order : round (yearOf (termOf 0 1 0 0 ∷ []) (courseOf 1 1 ∷ [])) .rule ≡ 4
+unfolding computing
+in-order = refl
 
 -- rule 3 on courses of 4 and 3, credits 4 to 5: the first is fixed, and with the p that follows the second is struck
 early : list (rule3 (yearOf (termOf 4 5 0 2 ∷ termOf 0 9 0 2 ∷ []) (courseOf 4 3 ∷ courseOf 3 3 ∷ [])) 0 .year) 1 ≡ 2
-unfolding sum fixedCredits openCredits fold verdict3 rule3Course rule3
+unfolding computing
 early = refl
 
 -- rule 7 passes a course that term 1 cannot spare and counts the one behind it
 skips : rule7 (yearOf (termOf 0 4 0 3 ∷ termOf 0 9 1 3 ∷ termOf 0 9 0 3 ∷ []) (courseOf 1 3 ∷ courseOf 2 5 ∷ [])) 0 .term .most .0 ≡ 1
-unfolding sum any tab rank orderTo keep walk fixedCredits fixedCount openCount countsWithin outcome spares blocked charged walkOf up rule7
+unfolding computing
 skips = refl

@@ -5,4 +5,5 @@ pub mod Lists
 pub mod Spares
 pub mod Packing
 pub mod Round
+pub mod Computing
 pub mod Examples

@@ -8,7 +8,8 @@ pub record Reached : Type 0 where
   pub credits : ℕ
   pub count : ℕ
 
--- The state S holds the spares. `blocked s g`: some other term that lists g has spare 0. `charge s g`: one less for each other term that lists g.
+-- The state S holds the spares. `blocked s g`: some other term that lists g has spare 0.
+-- `charge s g`: one less for each other term that lists g.
 pub record Table (S : Type 0) : Type 0 where
   pub blocked : S → ℕ → Bool
   pub charge : S → ℕ → S

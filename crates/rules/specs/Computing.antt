@@ -1,0 +1,34 @@
+-- Inner: all that a round is computed by, under one name. `unfolding computing` lets a closed example compute.
+use Rattle.theory.specs.Sum.{sum}
+use Rattle.theory.specs.Others.{others}
+use Rattle.theory.specs.Largest.{largest}
+use Rattle.theory.specs.Tests.{any, all}
+use Rattle.theory.specs.Tab.{tab}
+use Rattle.theory.specs.Fold.{fold}
+use Rattle.theory.specs.Order.{rank, orderTo, keep}
+use Rattle.theory.specs.Walk.{walk}
+use Rattle.theory.specs.Packing.{share}
+use Rattle.year.specs.Sums.{fixedCredits, openCredits, fixedCount, openCount, allCredits, isPlaced, allPlaced}
+use Rattle.year.specs.Tight.{creditsWithin, countsWithin}
+use Rattle.rules.specs.Step.{outcome}
+use Rattle.rules.specs.Bounds.{rule1, rule2, rule4, rule5}
+use Rattle.rules.specs.Lists.{verdict3, rule3Course, rule3, verdict10, rule10Course, rule10}
+use Rattle.rules.specs.Spares.{spares, blocked, charged, walkOf, down, up, rule6, rule7, rule8, rule9}
+use Rattle.rules.specs.Packing.{shares, rule11}
+use Rattle.rules.specs.Round.{round}
+
+unfoldable words : Unit {0}
+unfolding sum others largest any all tab fold rank orderTo keep walk share
+words = tt
+
+unfoldable sums : Unit {0}
+unfolding fixedCredits openCredits fixedCount openCount allCredits isPlaced allPlaced creditsWithin countsWithin outcome
+sums = tt
+
+unfoldable families : Unit {0}
+unfolding rule1 rule2 rule4 rule5 verdict3 rule3Course rule3 verdict10 rule10Course rule10 spares blocked charged walkOf down up rule6 rule7 rule8 rule9 shares rule11
+families = tt
+
+unfoldable pub computing : Unit {0}
+unfolding words sums families round
+computing = tt
