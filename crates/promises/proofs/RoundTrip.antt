@@ -74,38 +74,38 @@ wrote y b = go (isSound y) (leb (length (recordsOf y)) (length b)) refl refl
 -- ---- a list that does not read
 
 -- a refused reading hands back the year of one term, all bounds 0, no course
-Hands : Received → Type 0
-Hands r = (readingNumber (r .answer) ≡ 0 → ⊥) → r .year ≡ emptyYear
+EmptyIfRefused : Received → Type 0
+EmptyIfRefused r = (readingNumber (r .answer) ≡ 0 → ⊥) → r .year ≡ emptyYear
 
-hands-next : (r n : Received) → Hands r → Hands n → (a : Reading) → Hands (onward r a n)
-hands-next r n p q reading.Done = q
-hands-next r n p q (reading.Refused f k) = p
+empty-onward : (r n : Received) → EmptyIfRefused r → EmptyIfRefused n → (a : Reading) → EmptyIfRefused (onward r a n)
+empty-onward r n p q reading.Done = q
+empty-onward r n p q (reading.Refused f k) = p
 
-hands-taken : (y : Year) (k : ℕ) (c : Record) → Hands (taken y k c)
-unfolding Hands
-hands-taken y k (kinds.OfTerm t) n = absurd (n refl)
-hands-taken y k (kinds.OfCourse c) n = absurd (n refl)
-hands-taken y k (kinds.Faulty f) n = refl
+empty-taken : (y : Year) (k : ℕ) (c : Record) → EmptyIfRefused (taken y k c)
+unfolding EmptyIfRefused
+empty-taken y k (kinds.OfTerm t) n = absurd (n refl)
+empty-taken y k (kinds.OfCourse c) n = absurd (n refl)
+empty-taken y k (kinds.Faulty f) n = refl
 
-hands-to : (s : List ℕ) (k : ℕ) → Hands (readTo s k)
-unfolding readTo Hands
-hands-to s zero = λ n. absurd (n refl)
-hands-to s (suc k) =
+empty-to : (s : List ℕ) (k : ℕ) → EmptyIfRefused (readTo s k)
+unfolding readTo EmptyIfRefused
+empty-to s zero = λ n. absurd (n refl)
+empty-to s (suc k) =
     let c = recordAt s (k * 16) (readTo s k .year .terms) (readTo s k .year .courses) in
-    hands-next (readTo s k) (taken (readTo s k .year) k c) (hands-to s k) (hands-taken (readTo s k .year) k c) (readTo s k .answer)
+    empty-onward (readTo s k) (taken (readTo s k .year) k c) (empty-to s k) (empty-taken (readTo s k .year) k c) (readTo s k .answer)
 
 pub read-refused : (s : List ℕ) → (readingNumber (readList s .answer) ≡ 0 → ⊥) → readList s .year ≡ emptyYear
-unfolding readList Hands
-read-refused s = choose-any Hands (badLength (length s)) (refused fault.Length 0) (readTo s (length s / 16)) (λ n. refl) (hands-to s (length s / 16))
+unfolding readList EmptyIfRefused
+read-refused s = choose-any EmptyIfRefused (badLength (length s)) (refused fault.Length 0) (readTo s (length s / 16)) (λ n. refl) (empty-to s (length s / 16))
 
-faulty : (f : Fault) → faultNumber f ≡ 0 → ⊥
-faulty fault.Length z = omega arith
-faulty fault.Letter z = omega arith
-faulty fault.Number z = omega arith
-faulty fault.Size z = omega arith
-faulty fault.Order z = omega arith
-faulty fault.List z = omega arith
-faulty fault.Padding z = omega arith
+fault-has-number : (f : Fault) → faultNumber f ≡ 0 → ⊥
+fault-has-number fault.Length z = omega arith
+fault-has-number fault.Letter z = omega arith
+fault-has-number fault.Number z = omega arith
+fault-has-number fault.Size z = omega arith
+fault-has-number fault.Order z = omega arith
+fault-has-number fault.List z = omega arith
+fault-has-number fault.Padding z = omega arith
 
 -- a list that reads is one whose number is 0
 pub read-done : (s : List ℕ) → readingNumber (readList s .answer) ≡ 0 → readList s ≡ done (readList s .year)
@@ -116,4 +116,4 @@ read-done s e = go (readList s) e
       where
         by : (a : Reading) → r .answer ≡ a → readingNumber a ≡ 0 → r ≡ done (r .year)
         by reading.Done p z = λ i. record { answer = p i; year = r .year }
-        by (reading.Refused f k) p z = absurd (faulty f z)
+        by (reading.Refused f k) p z = absurd (fault-has-number f z)
