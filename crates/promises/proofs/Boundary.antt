@@ -30,7 +30,7 @@ use Rattle.boundary.specs.Calls.{leftWhenRead, filterLeft, filterOut, narrowOf,
 use Rattle.filter.proofs.RoundLaws.{filter-narrower}
 use Rattle.promises.specs.Narrowings.{Narrow, place, bar, raiseLowCredits, lowerHighCredits, raiseLowCount, lowerHighCount, narrow}
 use Rattle.promises.specs.Boundary.{FilterLeaves, NarrowLeaves, BufferLeft}
-use Rattle.promises.proofs.Narrowings.{each-narrowing}
+use Rattle.promises.proofs.Narrowings.{narrow-narrower}
 use Rattle.promises.proofs.RoundTrip.{read-done}
 
 -- ---- reading
@@ -119,7 +119,7 @@ abbrev SoundAlike : Year → Narrowed → Type 0
 SoundAlike y r = Sound (r .year) × (r .year .terms ≡ y .terms) × (r .year .courses ≡ y .courses)
 
 sound-alike : (y : Year) → Sound y → (n : Narrow) → SoundAlike y (narrow n y)
-sound-alike y s n = let w = each-narrowing n y in (w .stays-sound s, w .terms-same, w .courses-same)
+sound-alike y s n = let w = narrow-narrower n y s in (w .sound, w .terms-same, w .courses-same)
 
 narrow-alike : (y : Year) → Sound y → (kind i j : ℕ) → SoundAlike y (narrowOf y kind i j)
 unfolding narrowOf

@@ -2,21 +2,22 @@
 use Prim.Native.Nat.{ℕ, _-_, _^_, _≤_, _<_, min, max}
 use mathlib.Core.Bool.{Bool, true, false, _||_, true≢false}
 use mathlib.Core.Logic.{_↔_}
-use mathlib.Core.Path.{_≡_, refl, sym, ap, _∙_}
+use mathlib.Core.Path.{_≡_, refl, sym, ap, subst, _∙_}
 use native.Mathlib.Omega.{arith}
 use native.Mathlib.Decide.{decLt}
 use lib.Dec.{eqb, leb, ltb}
-use borrow.Author.Tests.{eqb-true, eqb-false, leb-false, ltb-false, eq-eqb, lt-ltb, le-ltb}
+use lib.Seq.{set-getD}
+use borrow.Author.Tests.{eqb-true, leb-false, ltb-false, eq-eqb, lt-ltb, le-ltb}
 use Rattle.theory.specs.Choice.{choose}
 use Rattle.theory.proofs.ChoiceLaws.{choose-case}
 use Rattle.theory.proofs.TestLaws.{or-false}
 use Rattle.theory.specs.Bits.{has}
 use Rattle.theory.proofs.BitLaws.{has-power}
-use Rattle.year.specs.Year.{termAt, courseAt, list, lists, lowCredits, highCredits, lowCount, highCount, withTerm, placed, struck}
+use Rattle.year.specs.Year.{zeroCourse, termAt, courseAt, list, lists, isFixed, withList, lowCredits, highCredits, lowCount, highCount, withTerm, placed, struck}
 use Rattle.year.specs.Tight.{creditsWithin, countsWithin}
 use Rattle.year.specs.Narrow.{answered, checked, noSuch, placing, barring, placeOf, barOf, tightened, raiseLowCreditsOf, lowerHighCreditsOf, raiseLowCountOf, lowerHighCountOf}
 use Rattle.year.specs.Plans.{Placing, Plan}
-use Rattle.year.specs.Sound.{isSound, Sound, TermSound}
+use Rattle.year.specs.Sound.{isSound, Sound}
 use Rattle.year.specs.Numbers.{narrowingNumber}
 use Rattle.year.specs.declared.Tight.{Tight}
 use Rattle.year.specs.declared.Year.{Year}
@@ -24,17 +25,53 @@ use Rattle.year.specs.declared.Narrowing.{Narrowing}
 use Rattle.year.specs.declared.Narrowing.the-variants.{Done, Unsound, Missing, Outside, Crossing}
 use Rattle.year.specs.declared.Narrowed.{Narrowed}
 use Rattle.year.proofs.SoundLaws.{sound-of}
-use Rattle.year.proofs.DoorLaws.{with-term-sound, placed-sound, struck-sound}
-use Rattle.rules.proofs.Alike.{Alike, alike-rest, alike-list}
-use Rattle.promises.specs.Narrowings.{Narrow, place, bar, raiseLowCredits, lowerHighCredits, raiseLowCount, lowerHighCount, narrow, Meets, missing, outside, crossing, numberDue, NarrowedBy, EachNarrowing}
+use Rattle.rules.specs.Step.{outcome}
+use Rattle.rules.proofs.Narrows.{Narrower, narrower-self}
+use Rattle.rules.proofs.Steps.{OutcomeTighter, credits-tighter, counts-tighter, narrows-put, narrows-struck, narrows-placed}
+use Rattle.promises.specs.Narrowings.{Narrow, place, bar, raiseLowCredits, lowerHighCredits, raiseLowCount, lowerHighCount, narrow, Meets, missing, outside, crossing, numberDue, NoLooser, NarrowedBy, EachNarrowing}
 use Rattle.rules.proofs.DoorPlans.{credits-plans, counts-plans, placed-plans, struck-plans}
+
+-- a step that narrows leaves a year that is no looser, and such a year is narrower
+module _ (y z : Year) where
+  pub no-looser-of : Narrower y z → NoLooser y z
+  no-looser-of w = record {
+    sound = w .sound;
+    terms-same = w .terms-same;
+    courses-same = w .courses-same;
+    weight-same = w .weight-same;
+    low-credits = w .low-credits;
+    high-credits = w .high-credits;
+    low-count = w .low-count;
+    high-count = w .high-count;
+    lists-less = w .lists-less;
+  }
+
+  narrower-of : NoLooser y z → Narrower y z
+  narrower-of w = record {
+    sound = w .sound;
+    terms-same = w .terms-same;
+    courses-same = w .courses-same;
+    weight-same = w .weight-same;
+    low-credits = w .low-credits;
+    high-credits = w .high-credits;
+    low-count = w .low-count;
+    high-count = w .high-count;
+    lists-less = w .lists-less;
+  }
+
+-- ---- refused, or done
 
 module _ (y : Year) (n : Narrow) where
   when-refused : (a : Narrowing) → (narrowingNumber a ≡ 0 → ⊥) → narrowingNumber a ≡ numberDue y n → NarrowedBy y n (answered a y)
-  when-refused a ne e = record { stays-sound = λ s. s; terms-same = refl; courses-same = refl; weight-same = λ i. refl; plans = λ z p. absurd (ne z); refused = λ q. refl; number = e }
+  when-refused a ne e = record {
+    no-looser = λ s. no-looser-of y y (narrower-self y s);
+    plans = λ z p. absurd (ne z);
+    refused = λ q. refl;
+    number = e;
+  }
 
-  when-done : (z : Year) → Sound z → Alike y z → ((p : Placing) → Plan z p ↔ (Plan y p × Meets y n p)) → 0 ≡ numberDue y n → NarrowedBy y n (answered Done z)
-  when-done z s a h e = record { stays-sound = λ q. s; terms-same = a .terms-same; courses-same = a .courses-same; weight-same = a .weight-same; plans = λ q p. h p; refused = λ q. absurd (q refl); number = e }
+  when-done : (z : Year) → Narrower y z → ((p : Placing) → Plan z p ↔ (Plan y p × Meets y n p)) → 0 ≡ numberDue y n → NarrowedBy y n (answered Done z)
+  when-done z w h e = record { no-looser = λ s. no-looser-of y z w; plans = λ q p. h p; refused = λ q. absurd (q refl); number = e }
 
   -- refusals 8, 10 and 11 are in order: it is left to show what the narrowing does then
   past-refusals : (r : Narrowed) → (Sound y → missing y n ≡ false → numberDue y n ≡ choose (crossing y n) 12 0 → NarrowedBy y n r)
@@ -50,16 +87,22 @@ module _ (y : Year) (n : Narrow) where
 
 -- ---- bounds
 
+-- bounds that do not cross are put there as a rule puts them
+uncrossed-narrower : (y : Year) (j : ℕ) (w : Tight) → Sound y → j < y .terms → OutcomeTighter (termAt y j) (outcome 0 false (termAt y j) w)
+    → w .crossed ≡ false → Narrower y (withTerm y j (w .term))
+unfolding outcome
+uncrossed-narrower y j w s l tighter c = rw c at (narrows-put y j (outcome 0 false (termAt y j) w) s l tighter .year)
+
 tight-narrows : (y : Year) (n : Narrow) (j : ℕ) (w : Tight) → Sound y → j < y .terms → numberDue y n ≡ choose (w .crossed) 12 0
-    → (w .crossed ≡ false → TermSound (w .term)) → ((p : Placing) → Plan (withTerm y j (w .term)) p ↔ (Plan y p × Meets y n p))
+    → OutcomeTighter (termAt y j) (outcome 0 false (termAt y j) w) → ((p : Placing) → Plan (withTerm y j (w .term)) p ↔ (Plan y p × Meets y n p))
     → (w .altered ≡ false → (p : Placing) → Plan y p → Meets y n p) → NarrowedBy y n (tightened y j w)
-tight-narrows y n j w s l due sound plans still =
+tight-narrows y n j w s l due tighter plans still =
     choose-case (NarrowedBy y n) (w .crossed) (answered Crossing y) (choose (w .altered) (answered Done (withTerm y j (w .term))) (answered Done y))
     (λ c. when-refused y n Crossing (λ z. omega arith) (rw (due, c)))
     (λ c.
     choose-case (NarrowedBy y n) (w .altered) (answered Done (withTerm y j (w .term))) (answered Done y)
-    (λ e. when-done y n (withTerm y j (w .term)) (with-term-sound y j (w .term) s l (sound c)) (record { terms-same = refl; courses-same = refl; weight-same = λ i. refl }) plans (rw (due, c)))
-    (λ e. when-done y n y s (alike-rest y) (λ p. (λ h. (h, still e p h), λ h. h .0)) (rw (due, c))))
+    (λ e. when-done y n (withTerm y j (w .term)) (uncrossed-narrower y j w s l tighter c) plans (rw (due, c)))
+    (λ e. when-done y n y (narrower-self y s) (λ p. (λ h. (h, still e p h), λ h. h .0)) (rw (due, c))))
 
 same-test : (a b c d : ℕ) → (a < b → c < d) → (c < d → a < b) → ltb a b ≡ ltb c d
 same-test a b c d f g = go (decLt c d)
@@ -93,7 +136,7 @@ module _ (y : Year) (j v : ℕ) where
       let l : j < y .terms = leb-false (y .terms) j m in
       let t = s .term-sound j l in
       tight-narrows y (raiseLowCredits j v) j w s l (due ∙ ap (λ b. choose b 12 0) (sym (raise-crossed (lowCredits y j) (highCredits y j) v (t .credits-ordered))))
-      (λ c. omega (arith, t, ltb-false (min (highCredits y j) (highCredits y j)) (max (lowCredits y j) v) c))
+      (credits-tighter 0 false (termAt y j) v (highCredits y j) t)
       (λ p. (
         λ h. let g = credits-plans y j v (highCredits y j) p s l .0 h in (g .0, g .1),
         λ h. credits-plans y j v (highCredits y j) p s l .1 (h .0, h .1, h .0 .credits-high j l),
@@ -111,7 +154,7 @@ module _ (y : Year) (j v : ℕ) where
       let l : j < y .terms = leb-false (y .terms) j m in
       let t = s .term-sound j l in
       tight-narrows y (lowerHighCredits j v) j w s l (due ∙ ap (λ b. choose b 12 0) (sym (lower-crossed (lowCredits y j) (highCredits y j) v (t .credits-ordered))))
-      (λ c. omega (arith, t, ltb-false (min (highCredits y j) v) (max (lowCredits y j) (lowCredits y j)) c))
+      (credits-tighter 0 false (termAt y j) (lowCredits y j) v t)
       (λ p. (
         λ h. let g = credits-plans y j (lowCredits y j) v p s l .0 h in (g .0, g .2),
         λ h. credits-plans y j (lowCredits y j) v p s l .1 (h .0, h .0 .credits-low j l, h .1),
@@ -129,7 +172,7 @@ module _ (y : Year) (j v : ℕ) where
       let l : j < y .terms = leb-false (y .terms) j m in
       let t = s .term-sound j l in
       tight-narrows y (raiseLowCount j v) j w s l (due ∙ ap (λ b. choose b 12 0) (sym (raise-crossed (lowCount y j) (highCount y j) v (t .count-ordered))))
-      (λ c. omega (arith, t, ltb-false (min (highCount y j) (highCount y j)) (max (lowCount y j) v) c))
+      (counts-tighter 0 false (termAt y j) v (highCount y j) t)
       (λ p. (
         λ h. let g = counts-plans y j v (highCount y j) p s l .0 h in (g .0, g .1),
         λ h. counts-plans y j v (highCount y j) p s l .1 (h .0, h .1, h .0 .count-high j l),
@@ -147,7 +190,7 @@ module _ (y : Year) (j v : ℕ) where
       let l : j < y .terms = leb-false (y .terms) j m in
       let t = s .term-sound j l in
       tight-narrows y (lowerHighCount j v) j w s l (due ∙ ap (λ b. choose b 12 0) (sym (lower-crossed (lowCount y j) (highCount y j) v (t .count-ordered))))
-      (λ c. omega (arith, t, ltb-false (min (highCount y j) v) (max (lowCount y j) (lowCount y j)) c))
+      (counts-tighter 0 false (termAt y j) (lowCount y j) v t)
       (λ p. (
         λ h. let g = counts-plans y j (lowCount y j) v p s l .0 h in (g .0, g .2),
         λ h. counts-plans y j (lowCount y j) v p s l .1 (h .0, h .0 .count-low j l, h .1),
@@ -165,6 +208,16 @@ there-are y i j e =
     (leb-false (y .courses) i (r .0), leb-false (y .terms) j (r .1))
 
 module _ (y : Year) (i j : ℕ) where
+  own-list : withList y i (list y i) ≡ y
+  own-list = λ k. record { terms = y .terms; courses = y .courses; term = y .term; course = set-getD (y .course) i zeroCourse k }
+
+  placed-narrower : Sound y → i < y .courses → j < y .terms → lists (courseAt y i) j ≡ true → Narrower y (placed y i j)
+  placed-narrower s h l e = go (isFixed (courseAt y i) j) refl
+    where
+      go : (b : Bool) → isFixed (courseAt y i) j ≡ b → Narrower y (placed y i j)
+      go true q = subst (Narrower y) (sym (ap (withList y i) (sym (eqb-true (list y i) (2 ^ j) q)) ∙ own-list)) (narrower-self y s)
+      go false q = narrows-placed y i j s h l (rw (e, q) refl) .year
+
   placing-narrows : NarrowedBy y (place i j) (placeOf y i j)
   unfolding placeOf
   placing-narrows =
@@ -172,7 +225,7 @@ module _ (y : Year) (i j : ℕ) where
       (λ s m due.
       let k = there-are y i j m in
       choose-case (NarrowedBy y (place i j)) (lists (courseAt y i) j) (answered Done (placed y i j)) (answered Crossing y)
-      (λ e. when-done y (place i j) (placed y i j) (placed-sound y i j s (k .0) (k .1)) (alike-list y i (2 ^ j) s (k .0)) (λ p. placed-plans y i j p s (k .0) e) (rw (due, e)))
+      (λ e. when-done y (place i j) (placed y i j) (placed-narrower s (k .0) (k .1) e) (λ p. placed-plans y i j p s (k .0) e) (rw (due, e)))
       (λ e. when-refused y (place i j) Crossing (λ z. omega arith) (rw (due, e))))
 
   -- a course that does not list j is not in j, and j alone is not its list
@@ -195,10 +248,10 @@ module _ (y : Year) (i j : ℕ) where
       choose-case (NarrowedBy y (bar i j)) (eqb (list y i) (2 ^ j)) (answered Crossing y) (answered Done (struck y i j))
       (λ q. when-refused y (bar i j) Crossing (λ z. omega arith) (rw (due, q)))
       (λ q.
-      when-done y (bar i j) (struck y i j) (struck-sound y i j s (k .0) e (eqb-false (list y i) (2 ^ j) q)) (alike-list y i (list y i - 2 ^ j) s (k .0))
+      when-done y (bar i j) (struck y i j) (narrows-struck y i j s (k .0) (k .1) (rw (e, q) refl) .year)
       (λ p. struck-plans y i j p s (k .0) e) (rw (due, q))))
       (λ e.
-      when-done y (bar i j) y s (alike-rest y)
+      when-done y (bar i j) y (narrower-self y s)
       (λ p. (λ h. (h, λ q. true≢false (sym (h .listed i (k .0)) ∙ ap (lists (courseAt y i)) q ∙ e)), λ h. h .0))
       (rw (due, unlisted e))))
 
@@ -212,5 +265,5 @@ each-narrowing (lowerHighCredits j v) y = lower-high-credits y j v
 each-narrowing (raiseLowCount j v) y = raise-low-count y j v
 each-narrowing (lowerHighCount j v) y = lower-high-count y j v
 
-pub alike-narrowed : (n : Narrow) (y : Year) → Alike y (narrow n y .year)
-alike-narrowed n y = let r = each-narrowing n y in record { terms-same = r .terms-same; courses-same = r .courses-same; weight-same = r .weight-same }
+pub narrow-narrower : (n : Narrow) (y : Year) → Sound y → Narrower y (narrow n y .year)
+narrow-narrower n y s = narrower-of y (narrow n y .year) (each-narrowing n y .no-looser s)

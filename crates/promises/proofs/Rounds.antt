@@ -20,6 +20,7 @@ use Rattle.filter.proofs.RoundLaws.{left, dies, rests, goes-on, round-falls, fi
 use Rattle.theory.proofs.ChoiceLaws.{choose-case}
 use Rattle.year.specs.Sums.{allPlaced}
 use Rattle.promises.specs.Rounds.{Altering, none, one-more, Ends, finds-no-plan, comes-to-rest, Filtering, Rested, FilteringNarrows}
+use Rattle.promises.proofs.Narrowings.{no-looser-of}
 
 -- ---- marks and years
 
@@ -113,19 +114,7 @@ module _ {y : Year} (s : Sound y) where
 -- ---- what is handed back
 
 pub filtering-narrows : FilteringNarrows
-filtering-narrows y s =
-    let w = filter-narrower y s in
-    record {
-      sound = w .sound;
-      terms-same = w .terms-same;
-      courses-same = w .courses-same;
-      weight-same = w .weight-same;
-      low-credits = w .low-credits;
-      high-credits = w .high-credits;
-      low-count = w .low-count;
-      high-count = w .high-count;
-      lists-less = w .lists-less;
-    }
+filtering-narrows y s = no-looser-of y (filterOf y .year) (filter-narrower y s)
 
 rest-rounds : (z : Year) (n : ℕ) → filterRounds (atRest z n) ≡ n
 rest-rounds z n = choose-case (λ a. filterRounds a ≡ n) (allPlaced z) (Settled n) (Open n) (λ e. refl) (λ e. refl)

@@ -1,4 +1,4 @@
--- Calls one after another: each keeps the year sound and like the first, and its plans are those that meet it; so do all together.
+-- Calls one after another: each leaves a year no looser, whose plans are those that meet it; and so do all of them together.
 use Prim.Native.Nat.{ℕ, _<_}
 use mathlib.Core.Bool.{true}
 use mathlib.Core.List.{List, [], _∷_}
@@ -20,11 +20,12 @@ use Rattle.records.specs.Writing.{recordsOf, writeAnswer, written}
 use Rattle.filter.specs.Filter.{filterOf}
 use Rattle.filter.specs.Numbers.{isSettled}
 use Rattle.filter.proofs.RoundLaws.{filter-narrower}
-use Rattle.rules.proofs.Alike.{Alike, alike-rest, alike-then, alike-narrower, credits-alike, count-alike}
-use Rattle.promises.specs.Narrowings.{Narrow, place, bar, raiseLowCredits, lowerHighCredits, raiseLowCount, lowerHighCount, narrow, Meets}
+use Rattle.rules.proofs.Alike.{Alike, alike-narrower, credits-alike, count-alike}
+use Rattle.rules.proofs.Narrows.{Narrower, narrower-self, narrower-then}
+use Rattle.promises.specs.Narrowings.{Narrow, place, bar, raiseLowCredits, lowerHighCredits, raiseLowCount, lowerHighCount, narrow, Meets, NoLooser}
 use Rattle.promises.specs.Sequence.{Call, narrowBy, filter, writeAndRead, result, readBack, after, Asks, MeetsAll, PlanThatMeets}
 use Rattle.promises.specs.OnePlacing.{thePlacing}
-use Rattle.promises.proofs.Narrowings.{each-narrowing, alike-narrowed}
+use Rattle.promises.proofs.Narrowings.{no-looser-of, each-narrowing, narrow-narrower}
 use Rattle.promises.proofs.RoundsKept.{filter-kept}
 use Rattle.promises.proofs.SettledPlan.{settled-one}
 use Rattle.promises.proofs.RoundTrip.{wrote, written-reads}
@@ -46,63 +47,57 @@ read-back y b s =
     (λ e. ap (λ l. readList l .year) (wrote y b .front (eqb-true (writingNumber (writeAnswer y (length b))) 0 e)) ∙ ap (λ r. r .year) (written-reads y s))
     (λ e. refl)
 
--- what is shown of a call on a year y that is like the first
+-- what is shown of a call on a year y that is the first or narrower
 record CallKeeps (first : Year) (c : Call) (y : Year) : Type 0 where
-  sound : Sound (result c y .year)
-  alike : Alike y (result c y .year)
+  narrower : Narrower y (result c y .year)
   plans : (p : Placing) → Plan (result c y .year) p ↔ (Plan y p × Asks first c (result c y .number) p)
 
-call-keeps : (first : Year) (c : Call) (y : Year) → Sound y → Alike first y → CallKeeps first c y
-call-keeps first (narrowBy n) y s a =
-    let r = each-narrowing n y in
-    record { sound = r .stays-sound s; alike = alike-narrowed n y; plans = λ p. go p (ℕ-discrete (narrowingNumber (narrow n y .answer)) 0) }
+call-keeps : (first : Year) (c : Call) (y : Year) → Narrower first y → CallKeeps first c y
+call-keeps first (narrowBy n) y w =
+    record { narrower = narrow-narrower n y (w .sound); plans = λ p. go p (ℕ-discrete (narrowingNumber (narrow n y .answer)) 0) }
   where
     go : (p : Placing) → Dec (narrowingNumber (narrow n y .answer) ≡ 0) → Plan (narrow n y .year) p ↔ (Plan y p × (narrowingNumber (narrow n y .answer) ≡ 0 → Meets first n p))
     go p (yes e) =
         let q = each-narrowing n y .plans e p in
-        let m = meets-alike first y n p a in
+        let m = meets-alike first y n p (alike-narrower first y w) in
         (λ h. (q .0 h .0, λ z. m .0 (q .0 h .1)), λ h. q .1 (h .0, m .1 (h .1 e)))
     go p (no d) = let e = each-narrowing n y .refused d in (λ h. (subst (λ z. Plan z p) e h, λ z. absurd (d z)), λ h. subst (λ z. Plan z p) (sym e) (h .0))
-call-keeps first filter y s a =
-    let w = filter-narrower y s in
+call-keeps first filter y w = record {
+  narrower = filter-narrower y (w .sound);
+  plans = λ p. (λ h. (filter-kept y .plans p .0 h, tt), λ h. filter-kept y .plans p .1 (h .0));
+}
+call-keeps first (writeAndRead b) y w =
+    let e = read-back y b (w .sound) in
     record {
-      sound = w .sound;
-      alike = alike-narrower y (filterOf y .year) w;
-      plans = λ p. (λ h. (filter-kept y .plans p .0 h, tt), λ h. filter-kept y .plans p .1 (h .0));
-    }
-call-keeps first (writeAndRead b) y s a =
-    let e = read-back y b s in
-    record {
-      sound = subst Sound (sym e) s;
-      alike = subst (Alike y) (sym e) (alike-rest y);
+      narrower = subst (Narrower y) (sym e) (narrower-self y (w .sound));
       plans = λ p. (λ h. (subst (λ z. Plan z p) e h, tt), λ h. subst (λ z. Plan z p) (sym e) (h .0));
     }
 
 -- ---- all calls
 
-after-alike : (first : Year) (cs : List Call) (y : Year) → Sound y → Alike first y → Sound (after cs y) × Alike first (after cs y)
-after-alike first [] y s a = (s, a)
-after-alike first (c ∷ cs) y s a =
-    let one = call-keeps first c y s a in
-    after-alike first cs (result c y .year) (one .sound) (alike-then first y (result c y .year) a (one .alike))
+narrower-after : (first : Year) (cs : List Call) (y : Year) → Narrower first y → Narrower first (after cs y)
+narrower-after first [] y w = w
+narrower-after first (c ∷ cs) y w = narrower-after first cs (result c y .year) (narrower-then first y (result c y .year) w (call-keeps first c y w .narrower))
 
-plans-after : (first : Year) (cs : List Call) (y : Year) → Sound y → Alike first y → (p : Placing)
-    → Plan (after cs y) p ↔ (Plan y p × MeetsAll first cs y p)
-plans-after first [] y s a p = (λ h. (h, tt), λ h. h .0)
-plans-after first (c ∷ cs) y s a p =
-    let one = call-keeps first c y s a in
-    let rest = plans-after first cs (result c y .year) (one .sound) (alike-then first y (result c y .year) a (one .alike)) p in (
+plans-after : (first : Year) (cs : List Call) (y : Year) → Narrower first y → (p : Placing) → Plan (after cs y) p ↔ (Plan y p × MeetsAll first cs y p)
+plans-after first [] y w p = (λ h. (h, tt), λ h. h .0)
+plans-after first (c ∷ cs) y w p =
+    let one = call-keeps first c y w in
+    let rest = plans-after first cs (result c y .year) (narrower-then first y (result c y .year) w (one .narrower)) p in (
       λ h. let q = rest .0 h in let r = one .plans p .0 (q .0) in (r .0, (r .1, q .1)),
       λ h. rest .1 (one .plans p .1 (h .0, h .1 .0), h .1 .1),
     )
 
 module _ (first : Year) (calls : List Call) (s : Sound first) where
-  pub sequence-sound : Sound (after calls first)
-  sequence-sound = after-alike first calls first s (alike-rest first) .0
+  sequence-narrower : Narrower first (after calls first)
+  sequence-narrower = narrower-after first calls first (narrower-self first s)
+
+  pub sequence-no-looser : NoLooser first (after calls first)
+  sequence-no-looser = no-looser-of first (after calls first) sequence-narrower
 
   -- for any calls, so also for those made up to any point of a longer sequence
   pub sequence-plans : (p : Placing) → Plan (after calls first) p ↔ PlanThatMeets first calls p
-  sequence-plans = plans-after first calls first s (alike-rest first)
+  sequence-plans = plans-after first calls first (narrower-self first s)
 
   -- a filtering after the calls that says no plan (13): no plan of the first year meets them
   pub sequence-no-plan : result filter (after calls first) .number ≡ 13 → (p : Placing) → PlanThatMeets first calls p → ⊥
@@ -114,8 +109,7 @@ module _ (first : Year) (calls : List Call) (s : Sound first) where
       PlanThatMeets first calls p × ((q : Placing) → PlanThatMeets first calls q → (i : ℕ) → i < first .courses → q i ≡ p i)
   sequence-settled e =
       let y = after calls first in
-      let same = after-alike first calls first s (alike-rest first) .1 in
-      let one = settled-one y sequence-sound e in (
+      let one = settled-one y (sequence-narrower .sound) e in (
         sequence-plans (thePlacing (filterOf y .year)) .0 (one .plan),
-        λ q h i l. one .only q (sequence-plans q .1 h) i (omega (arith, same .courses-same)),
+        λ q h i l. one .only q (sequence-plans q .1 h) i (omega (arith, sequence-narrower .courses-same)),
       )

@@ -1,6 +1,6 @@
 -- The six narrowings: what each makes of a year, what it asks of a placing, which number it is due; and what is promised of each.
 use Prim.Native.Nat.{ℕ, _^_, _≤_}
-use mathlib.Core.Bool.{Bool, false, not, _||_}
+use mathlib.Core.Bool.{Bool, true, false, not, _||_}
 use mathlib.Core.Logic.{_↔_}
 use mathlib.Core.Path.{_≡_}
 use lib.Dec.{eqb, leb, ltb}
@@ -72,13 +72,22 @@ numberDue y n = choose (isSound y) (choose (missing y n) 10 (choose (outside n) 
 
 -- ---- what is promised
 
--- r, the answer to the narrowing n of y: the year handed back stays sound and has the same terms, courses and weights; done, its plans
--- are the plans of y that meet n; refused, it is y; and the number is the one due
+-- z is a sound year of the terms, courses and weights of y, with no bound looser and no list longer
+pub record NoLooser (y z : Year) : Type 0 where
+  pub sound : Sound z
+  pub terms-same : z .terms ≡ y .terms
+  pub courses-same : z .courses ≡ y .courses
+  pub weight-same : (i : ℕ) → weight z i ≡ weight y i
+  pub low-credits : (k : ℕ) → lowCredits y k ≤ lowCredits z k
+  pub high-credits : (k : ℕ) → highCredits z k ≤ highCredits y k
+  pub low-count : (k : ℕ) → lowCount y k ≤ lowCount z k
+  pub high-count : (k : ℕ) → highCount z k ≤ highCount y k
+  pub lists-less : (i k : ℕ) → lists (courseAt z i) k ≡ true → lists (courseAt y i) k ≡ true
+
+-- r, the answer to the narrowing n of y: of a sound year it hands back that year narrowed; done, the plans of the year handed back are
+-- the plans of y that meet n; refused, it is y; and the number is the one due
 pub record NarrowedBy (y : Year) (n : Narrow) (r : Narrowed) : Type 0 where
-  pub stays-sound : Sound y → Sound (r .year)
-  pub terms-same : r .year .terms ≡ y .terms
-  pub courses-same : r .year .courses ≡ y .courses
-  pub weight-same : (i : ℕ) → weight (r .year) i ≡ weight y i
+  pub no-looser : Sound y → NoLooser y (r .year)
   pub plans : narrowingNumber (r .answer) ≡ 0 → (p : Placing) → Plan (r .year) p ↔ (Plan y p × Meets y n p)
   pub refused : (narrowingNumber (r .answer) ≡ 0 → ⊥) → r .year ≡ y
   pub number : narrowingNumber (r .answer) ≡ numberDue y n

@@ -1,8 +1,6 @@
 -- What it is to run rounds until one alters nothing, with no limit on their number in the statement; and what filtering hands back.
-use Prim.Native.Nat.{ℕ, suc, _≤_}
-use mathlib.Core.Bool.{true}
+use Prim.Native.Nat.{ℕ, suc}
 use mathlib.Core.Path.{_≡_}
-use Rattle.year.specs.Year.{courseAt, weight, lists, lowCredits, highCredits, lowCount, highCount}
 use Rattle.year.specs.Sound.{Sound}
 use Rattle.year.specs.declared.Year.{Year}
 use Rattle.rules.specs.Round.{round}
@@ -10,6 +8,7 @@ use Rattle.filter.specs.Filter.{filtered, atRest, filterOf}
 use Rattle.filter.specs.Numbers.{filterRounds}
 use Rattle.filter.specs.declared.Answer.the-variants.{NoPlan}
 use Rattle.filter.specs.declared.Filtered.{Filtered}
+use Rattle.promises.specs.Narrowings.{NoLooser}
 
 -- ---- rounds in a row
 
@@ -38,17 +37,6 @@ pub record Rested (r : Filtered) : Type 0 where
   pub answer-stands : r .answer ≡ atRest (r .year) (filterRounds (r .answer))
   pub filtered-again : filterOf (r .year) ≡ filtered (atRest (r .year) 1) (r .year)
 
--- z is a sound year of the terms, courses and weights of y, with no bound looser and no list longer
-pub record NoLooser (y z : Year) : Type 0 where
-  pub sound : Sound z
-  pub terms-same : z .terms ≡ y .terms
-  pub courses-same : z .courses ≡ y .courses
-  pub weight-same : (i : ℕ) → weight z i ≡ weight y i
-  pub low-credits : (k : ℕ) → lowCredits y k ≤ lowCredits z k
-  pub high-credits : (k : ℕ) → highCredits z k ≤ highCredits y k
-  pub low-count : (k : ℕ) → lowCount y k ≤ lowCount z k
-  pub high-count : (k : ℕ) → highCount z k ≤ highCount y k
-  pub lists-less : (i k : ℕ) → lists (courseAt z i) k ≡ true → lists (courseAt y i) k ≡ true
-
+-- of a sound year, that year narrowed
 abbrev pub FilteringNarrows : Type 0
 FilteringNarrows = (y : Year) → Sound y → NoLooser y (filterOf y .year)
