@@ -13,9 +13,7 @@ use Rattle.year.specs.declared.Year.{Year}
 use Rattle.year.specs.declared.Narrowed.{Narrowed}
 use Rattle.year.specs.declared.Narrowing.{Narrowing}
 use Rattle.year.specs.declared.Narrowing.the-variants as narrowing
-use Rattle.records.specs.Numbers.{faultNumber, readingNumber}
-use Rattle.records.specs.declared.Fault.{Fault}
-use Rattle.records.specs.declared.Fault.the-variants as fault
+use Rattle.records.specs.Numbers.{readingNumber}
 use Rattle.records.specs.Reading.{readList, done}
 use Rattle.records.specs.Writing.{recordsOf, written}
 use Rattle.records.specs.declared.Reading.{Reading}
@@ -31,22 +29,13 @@ use Rattle.filter.proofs.RoundLaws.{filter-narrower}
 use Rattle.promises.specs.Narrowings.{Narrow, place, bar, raiseLowCredits, lowerHighCredits, raiseLowCount, lowerHighCount, narrow}
 use Rattle.promises.specs.Boundary.{FilterLeaves, NarrowLeaves, BufferLeft}
 use Rattle.promises.proofs.Narrowings.{narrow-narrower}
-use Rattle.promises.proofs.RoundTrip.{read-done}
+use Rattle.promises.proofs.RoundTrip.{fault-has-number, read-done}
 
 -- ---- reading
 
 left-done : (a : Reading) → readingNumber a ≡ 0 → (own b : List ℕ) → leftWhenRead a own b ≡ own
 left-done reading.Done e own b = refl
-left-done (reading.Refused f k) e own b = go f e
-  where
-    go : (f : Fault) → faultNumber f ≡ 0 → b ≡ own
-    go fault.Length e = absurd (omega arith)
-    go fault.Letter e = absurd (omega arith)
-    go fault.Number e = absurd (omega arith)
-    go fault.Size e = absurd (omega arith)
-    go fault.Order e = absurd (omega arith)
-    go fault.List e = absurd (omega arith)
-    go fault.Padding e = absurd (omega arith)
+left-done (reading.Refused f k) e own b = absurd (fault-has-number f e)
 
 left-unread : (a : Reading) → (readingNumber a ≡ 0 → ⊥) → (own b : List ℕ) → leftWhenRead a own b ≡ b
 left-unread reading.Done n own b = absurd (n refl)

@@ -13,14 +13,17 @@ use Rattle.filter.specs.Filter.{filterOf}
 use Rattle.filter.specs.Numbers.{filterNumber, filterRounds}
 use Rattle.filter.specs.declared.Answer.the-variants.{Settled, Open}
 use Rattle.filter.specs.declared.Filtered.{Filtered}
-use Rattle.records.proofs.WriteLaws.{records-length}
+use Rattle.records.proofs.ListLaws.{read-sound}
+use Rattle.records.proofs.WriteLaws.{records-length, records-most}
+use Rattle.records.proofs.ReadWrite.{read-write}
+use Rattle.records.proofs.WriteRead.{write-read}
 use Rattle.promises.specs.Rounds.{Filtering, Ends, finds-no-plan, comes-to-rest}
 use Rattle.promises.specs.Demands.{Demand1, Demand2, Demand3}
 use Rattle.promises.proofs.Rounds.{filter-runs, few-rounds, no-other, filter-rested}
 use Rattle.promises.proofs.RoundsKept.{filter-kept, filter-unsound}
 use Rattle.promises.proofs.Narrowings.{each-narrowing}
 use Rattle.promises.proofs.SettledPlan.{settled-plan}
-use Rattle.promises.proofs.RoundTrip.{read-gives-sound, read-done, read-refused, read-writes, records-fit, written-reads, wrote}
+use Rattle.promises.proofs.RoundTrip.{read-done, read-refused, wrote}
 use Rattle.promises.proofs.Sequence.{sequence-no-looser, sequence-plans, sequence-no-plan, sequence-settled}
 
 -- ---- 1
@@ -67,13 +70,13 @@ pub demand-2 : Demand2
 demand-2 = record {
   rounds-in-order = λ y r s. (no-other s r, λ e. subst (Filtering y) (sym e) (filter-runs y s));
   filters-to-itself = filter-rested;
-  write-then-read = λ y b s e. ap readList (wrote y b .front e) ∙ written-reads y s;
+  write-then-read = λ y b s e. ap readList (wrote y b .front e) ∙ write-read y s;
   records-in-front = λ y b. wrote y b .front;
   nothing-behind = λ y b. wrote y b .behind;
   sixteen-a-record = records-length;
-  records-read = written-reads;
-  records-fit = records-fit;
-  read-then-write = λ s bytes e. (read-gives-sound s (readList s .year) (read-done s e), read-writes s bytes (readList s .year) (read-done s e));
+  records-read = write-read;
+  records-fit = records-most;
+  read-then-write = λ s bytes e. let is = read-done s e in (read-sound s (readList s .year) is, read-write s bytes (readList s .year) is);
 }
 
 -- ---- 3

@@ -28,8 +28,8 @@ use Rattle.year.proofs.SoundLaws.{sound-of}
 use Rattle.rules.specs.Step.{outcome}
 use Rattle.rules.proofs.Narrows.{Narrower, narrower-self}
 use Rattle.rules.proofs.Steps.{OutcomeTighter, credits-tighter, counts-tighter, narrows-put, narrows-struck, narrows-placed}
-use Rattle.promises.specs.Narrowings.{Narrow, place, bar, raiseLowCredits, lowerHighCredits, raiseLowCount, lowerHighCount, narrow, Meets, missing, outside, crossing, numberDue, NoLooser, NarrowedBy, EachNarrowing}
 use Rattle.rules.proofs.DoorPlans.{credits-plans, counts-plans, placed-plans, struck-plans}
+use Rattle.promises.specs.Narrowings.{Narrow, place, bar, raiseLowCredits, lowerHighCredits, raiseLowCount, lowerHighCount, narrow, Meets, missing, outside, crossing, numberDue, NoLooser, NarrowedBy, EachNarrowing}
 
 -- a step that narrows leaves a year that is no looser, and such a year is narrower
 module _ (y z : Year) where

@@ -1,46 +1,23 @@
--- Write then read gives the year; a list that reads is written back byte for byte; a refused call leaves what it was lent.
-use Prim.Native.Nat.{ℕ, zero, suc, _*_, _/_, _≤_}
+-- What a write leaves of a lent buffer; what a reading hands back that is refused, and that a reading numbered 0 is done.
+use Prim.Native.Nat.{ℕ}
 use mathlib.Core.Bool.{Bool, true, false}
 use mathlib.Core.List.{List}
-use mathlib.Core.Path.{_≡_, refl}
+use mathlib.Core.Path.{_≡_, refl, ap}
 use native.Mathlib.Omega.{arith}
 use lib.Dec.{leb}
 use lib.ListN.{length, take, drop}
 use lib.Seq.{take-append-seam, drop-append-seam}
-use Rattle.theory.proofs.ChoiceLaws.{choose-any}
 use Rattle.year.specs.Year.{emptyYear}
-use Rattle.year.specs.Sound.{Sound, isSound}
+use Rattle.year.specs.Sound.{isSound}
 use Rattle.year.specs.declared.Year.{Year}
-use Rattle.records.specs.Bytes.{AllBytes}
 use Rattle.records.specs.Numbers.{faultNumber, readingNumber, writingNumber}
-use Rattle.records.specs.Reading.{readList, readTo, recordAt, badLength, done, refused, taken, onward}
+use Rattle.records.specs.Reading.{readList, done}
 use Rattle.records.specs.Writing.{recordsOf, writeAnswer, written}
 use Rattle.records.specs.declared.Fault.{Fault}
 use Rattle.records.specs.declared.Fault.the-variants as fault
-use Rattle.records.specs.declared.Record.{Record}
-use Rattle.records.specs.declared.Record.the-variants as kinds
 use Rattle.records.specs.declared.Reading.{Reading}
 use Rattle.records.specs.declared.Reading.the-variants as reading
-use Rattle.records.specs.declared.Received.{Received}
-use Rattle.records.proofs.ListLaws as lists
-use Rattle.records.proofs.WriteLaws.{records-most}
-use Rattle.records.proofs.ReadWrite as read-write
-use Rattle.records.proofs.WriteRead as write-read
-
--- a list that reads gives a sound year
-pub read-gives-sound : (s : List ℕ) (y : Year) → readList s ≡ done y → Sound y
-read-gives-sound s y e = lists.read-sound s y e
-
--- the records of a sound year read back to that year, and are as long as a list may be
-pub written-reads : (y : Year) → Sound y → readList (recordsOf y) ≡ done y
-written-reads y s = write-read.write-read y s
-
-pub records-fit : (y : Year) → Sound y → length (recordsOf y) ≤ 1280
-records-fit y s = records-most y s
-
--- a list of bytes that reads is written back byte for byte
-pub read-writes : (s : List ℕ) → AllBytes s → (y : Year) → readList s ≡ done y → recordsOf y ≡ s
-read-writes s bytes y e = read-write.read-write s bytes y e
+use Rattle.records.proofs.ListLaws.{list-refused}
 
 -- ---- the lent buffer
 
@@ -71,34 +48,17 @@ wrote y b = go (isSound y) (leb (length (recordsOf y)) (length b)) refl refl
       untouched = λ n. rw e refl;
     }
 
--- ---- a list that does not read
+-- ---- readings
 
 -- a refused reading hands back the year of one term, all bounds 0, no course
-EmptyIfRefused : Received → Type 0
-EmptyIfRefused r = (readingNumber (r .answer) ≡ 0 → ⊥) → r .year ≡ emptyYear
-
-empty-onward : (r n : Received) → EmptyIfRefused r → EmptyIfRefused n → (a : Reading) → EmptyIfRefused (onward r a n)
-empty-onward r n p q reading.Done = q
-empty-onward r n p q (reading.Refused f k) = p
-
-empty-taken : (y : Year) (k : ℕ) (c : Record) → EmptyIfRefused (taken y k c)
-unfolding EmptyIfRefused
-empty-taken y k (kinds.OfTerm t) n = absurd (n refl)
-empty-taken y k (kinds.OfCourse c) n = absurd (n refl)
-empty-taken y k (kinds.Faulty f) n = refl
-
-empty-to : (s : List ℕ) (k : ℕ) → EmptyIfRefused (readTo s k)
-unfolding readTo EmptyIfRefused
-empty-to s zero = λ n. absurd (n refl)
-empty-to s (suc k) =
-    let c = recordAt s (k * 16) (readTo s k .year .terms) (readTo s k .year .courses) in
-    empty-onward (readTo s k) (taken (readTo s k .year) k c) (empty-to s k) (empty-taken (readTo s k .year) k c) (readTo s k .answer)
-
 pub read-refused : (s : List ℕ) → (readingNumber (readList s .answer) ≡ 0 → ⊥) → readList s .year ≡ emptyYear
-unfolding readList EmptyIfRefused
-read-refused s = choose-any EmptyIfRefused (badLength (length s)) (refused fault.Length 0) (readTo s (length s / 16)) (λ n. refl) (empty-to s (length s / 16))
+read-refused s n = go (readList s .answer) refl
+  where
+    go : (a : Reading) → readList s .answer ≡ a → readList s .year ≡ emptyYear
+    go reading.Done e = absurd (n (ap readingNumber e))
+    go (reading.Refused f k) e = ap (λ r. r .year) (list-refused s f k e .0)
 
-fault-has-number : (f : Fault) → faultNumber f ≡ 0 → ⊥
+pub fault-has-number : (f : Fault) → faultNumber f ≡ 0 → ⊥
 fault-has-number fault.Length z = omega arith
 fault-has-number fault.Letter z = omega arith
 fault-has-number fault.Number z = omega arith
@@ -109,11 +69,8 @@ fault-has-number fault.Padding z = omega arith
 
 -- a list that reads is one whose number is 0
 pub read-done : (s : List ℕ) → readingNumber (readList s .answer) ≡ 0 → readList s ≡ done (readList s .year)
-read-done s e = go (readList s) e
+read-done s e = go (readList s .answer) refl e
   where
-    go : (r : Received) → readingNumber (r .answer) ≡ 0 → r ≡ done (r .year)
-    go r q = by (r .answer) refl q
-      where
-        by : (a : Reading) → r .answer ≡ a → readingNumber a ≡ 0 → r ≡ done (r .year)
-        by reading.Done p z = λ i. record { answer = p i; year = r .year }
-        by (reading.Refused f k) p z = absurd (fault-has-number f z)
+    go : (a : Reading) → readList s .answer ≡ a → readingNumber a ≡ 0 → readList s ≡ done (readList s .year)
+    go reading.Done p z = λ i. record { answer = p i; year = readList s .year }
+    go (reading.Refused f k) p z = absurd (fault-has-number f z)

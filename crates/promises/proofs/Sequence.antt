@@ -19,6 +19,7 @@ use Rattle.records.specs.Reading.{readList}
 use Rattle.records.specs.Writing.{recordsOf, writeAnswer, written}
 use Rattle.filter.specs.Filter.{filterOf}
 use Rattle.filter.specs.Numbers.{isSettled}
+use Rattle.records.proofs.WriteRead.{write-read}
 use Rattle.filter.proofs.RoundLaws.{filter-narrower}
 use Rattle.rules.proofs.Alike.{Alike, alike-narrower, credits-alike, count-alike}
 use Rattle.rules.proofs.Narrows.{Narrower, narrower-self, narrower-then}
@@ -28,7 +29,7 @@ use Rattle.promises.specs.OnePlacing.{thePlacing}
 use Rattle.promises.proofs.Narrowings.{no-looser-of, each-narrowing, narrow-narrower}
 use Rattle.promises.proofs.RoundsKept.{filter-kept}
 use Rattle.promises.proofs.SettledPlan.{settled-one}
-use Rattle.promises.proofs.RoundTrip.{wrote, written-reads}
+use Rattle.promises.proofs.RoundTrip.{wrote}
 
 -- ---- one call
 
@@ -44,7 +45,7 @@ meets-alike first y (lowerHighCount j v) p a = let e = count-alike first y p a j
 read-back : (y : Year) (b : List ℕ) → Sound y → readBack y b ≡ y
 read-back y b s =
     choose-case (λ z. z ≡ y) (eqb (writingNumber (writeAnswer y (length b))) 0) (readList (take (length (recordsOf y)) (written y b)) .year) y
-    (λ e. ap (λ l. readList l .year) (wrote y b .front (eqb-true (writingNumber (writeAnswer y (length b))) 0 e)) ∙ ap (λ r. r .year) (written-reads y s))
+    (λ e. ap (λ l. readList l .year) (wrote y b .front (eqb-true (writingNumber (writeAnswer y (length b))) 0 e)) ∙ ap (λ r. r .year) (write-read y s))
     (λ e. refl)
 
 -- what is shown of a call on a year y that is the first or narrower

@@ -12,7 +12,7 @@ use Rattle.promises.specs.Narrowings.{NoLooser}
 
 -- ---- rounds in a row
 
--- z is what n rounds make of y, each of which found no fault and left another year than it was given
+-- z is what n rounds make of y, in each of which no rule found "no plan" and which left another year than it was given
 pub data Altering (y : Year) : ℕ → Year → Type 0 where
   none : Altering y 0 y
   one-more : {n : ℕ} {z : Year} → Altering y n z → round z .rule ≡ 0 → (round z .year ≡ z → ⊥) → Altering y (suc n) (round z .year)

@@ -23,7 +23,7 @@ seenAt rule s j = overTo (bounded rule) s j .year
 abbrev pub Spared : Year → Type 0
 Spared z = (k : ℕ) → k < z .terms → (fixedCount z k ≤ lowCount z k) × (lowCount z k ≤ fixedCount z k + openCount z k)
 
--- wherever the rule behind rule a sees the year, in a round in which rules 1 to 4 found no fault; j may also be behind the last term
+-- so it is at every term of the rule behind rule a, and after its last, in a round that rules 1 to 4 do not end
 abbrev pub SparedAt : (Year → ℕ → Outcome) → ℕ → Type 0
 SparedAt rule a = (y : Year) → Sound y → afterRule y 4 .rule ≡ 0 → (j : ℕ) → j ≤ y .terms → Spared (seenAt rule (afterRule y a) j)
 
