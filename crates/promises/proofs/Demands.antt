@@ -76,7 +76,8 @@ demand-2 = record {
   sixteen-a-record = records-length;
   records-read = write-read;
   records-fit = records-most;
-  read-then-write = λ s bytes e. let is = read-done s e in (read-sound s (readList s .year) is, read-write s bytes (readList s .year) is);
+  read-is-sound = λ s e. read-sound s (readList s .year) (read-done s e);
+  read-then-write = λ s bytes e. read-write s bytes (readList s .year) (read-done s e);
 }
 
 -- ---- 3

@@ -12,24 +12,24 @@ use Rattle.filter.specs.Filter.{filterOf}
 use Rattle.filter.specs.Numbers.{filterNumber}
 use Rattle.boundary.specs.Calls.{filterOut, narrowOf, narrowOut}
 
--- a filtering of the list s into the buffer out
-pub record FilterLeaves (s out : List ℕ) : Type 0 where
-  pub fills : readingNumber (readList s .answer) ≡ 0 → length s ≤ length out
-      → filterNumber (filterOf (readList s .year) .answer) ≡ 0
-      → filterOut s out ≡ recordsOf (filterOf (readList s .year) .year) ++ drop (length s) out
-  pub unread : (readingNumber (readList s .answer) ≡ 0 → ⊥) → filterOut s out ≡ out
-  pub short : length out < length s → filterOut s out ≡ out
-  pub no-plan : (filterNumber (filterOf (readList s .year) .answer) ≡ 0 → ⊥) → filterOut s out ≡ out
+-- a filtering of a list into the buffer out
+pub record FilterLeaves (list out : List ℕ) : Type 0 where
+  pub fills : readingNumber (readList list .answer) ≡ 0 → length list ≤ length out
+      → filterNumber (filterOf (readList list .year) .answer) ≡ 0
+      → filterOut list out ≡ recordsOf (filterOf (readList list .year) .year) ++ drop (length list) out
+  pub unread : (readingNumber (readList list .answer) ≡ 0 → ⊥) → filterOut list out ≡ out
+  pub short : length out < length list → filterOut list out ≡ out
+  pub no-plan : (filterNumber (filterOf (readList list .year) .answer) ≡ 0 → ⊥) → filterOut list out ≡ out
 
--- a narrowing of the list s, of any kind and with any two numbers, into the buffer out
-pub record NarrowLeaves (s : List ℕ) (kind a b : ℕ) (out : List ℕ) : Type 0 where
-  pub fills : readingNumber (readList s .answer) ≡ 0 → length s ≤ length out
-      → narrowingNumber (narrowOf (readList s .year) kind a b .answer) ≡ 0
-      → narrowOut s kind a b out ≡ recordsOf (narrowOf (readList s .year) kind a b .year) ++ drop (length s) out
-  pub unread : (readingNumber (readList s .answer) ≡ 0 → ⊥) → narrowOut s kind a b out ≡ out
-  pub short : length out < length s → narrowOut s kind a b out ≡ out
-  pub refused : (narrowingNumber (narrowOf (readList s .year) kind a b .answer) ≡ 0 → ⊥) → narrowOut s kind a b out ≡ out
+-- a narrowing of a list, of any kind and with any two numbers, into the buffer out
+pub record NarrowLeaves (list : List ℕ) (kind a b : ℕ) (out : List ℕ) : Type 0 where
+  pub fills : readingNumber (readList list .answer) ≡ 0 → length list ≤ length out
+      → narrowingNumber (narrowOf (readList list .year) kind a b .answer) ≡ 0
+      → narrowOut list kind a b out ≡ recordsOf (narrowOf (readList list .year) kind a b .year) ++ drop (length list) out
+  pub unread : (readingNumber (readList list .answer) ≡ 0 → ⊥) → narrowOut list kind a b out ≡ out
+  pub short : length out < length list → narrowOut list kind a b out ≡ out
+  pub refused : (narrowingNumber (narrowOf (readList list .year) kind a b .answer) ≡ 0 → ⊥) → narrowOut list kind a b out ≡ out
 
 pub record BufferLeft : Type 0 where
-  pub by-filtering : (s out : List ℕ) → FilterLeaves s out
-  pub by-narrowing : (s : List ℕ) (kind a b : ℕ) (out : List ℕ) → NarrowLeaves s kind a b out
+  pub by-filtering : (list out : List ℕ) → FilterLeaves list out
+  pub by-narrowing : (list : List ℕ) (kind a b : ℕ) (out : List ℕ) → NarrowLeaves list kind a b out

@@ -33,10 +33,10 @@ pub record Demand1 : Type 0 where
   pub bounded-rounds : (y : Year) → filterRounds (filterOf y .answer) ≤ 1025985
   pub unsound-filtered : (y : Year) → (filterNumber (filterOf y .answer) ≡ 8) ↔ (isSound y ≡ false)
   pub narrowing-due : (n : Narrow) (y : Year) → narrowingNumber (narrow n y .answer) ≡ numberDue y n
-  pub refused-reading : (s : List ℕ) → (readingNumber (readList s .answer) ≡ 0 → ⊥) → readList s .year ≡ emptyYear
+  pub refused-reading : (bytes : List ℕ) → (readingNumber (readList bytes .answer) ≡ 0 → ⊥) → readList bytes .year ≡ emptyYear
   pub refused-narrowing : (n : Narrow) (y : Year) → (narrowingNumber (narrow n y .answer) ≡ 0 → ⊥) → narrow n y .year ≡ y
   pub refused-filtering : (y : Year) → (filterNumber (filterOf y .answer) ≡ 0 → ⊥) → filterOf y .year ≡ y
-  pub refused-writing : (y : Year) (b : List ℕ) → (writingNumber (writeAnswer y (length b)) ≡ 0 → ⊥) → written y b ≡ b
+  pub refused-writing : (y : Year) (buffer : List ℕ) → (writingNumber (writeAnswer y (length buffer)) ≡ 0 → ⊥) → written y buffer ≡ buffer
 
 -- ---- 2
 
@@ -45,17 +45,18 @@ pub record Demand1 : Type 0 where
 pub record Demand2 : Type 0 where
   pub rounds-in-order : (y : Year) (r : Filtered) → Sound y → Filtering y r ↔ (r ≡ filterOf y)
   pub filters-to-itself : (y : Year) → Sound y → filterNumber (filterOf y .answer) ≡ 0 → Rested (filterOf y)
-  pub write-then-read : (y : Year) (b : List ℕ) → Sound y → writingNumber (writeAnswer y (length b)) ≡ 0
-      → readList (take (length (recordsOf y)) (written y b)) ≡ done y
-  pub records-in-front : (y : Year) (b : List ℕ) → writingNumber (writeAnswer y (length b)) ≡ 0
-      → take (length (recordsOf y)) (written y b) ≡ recordsOf y
-  pub nothing-behind : (y : Year) (b : List ℕ) → writingNumber (writeAnswer y (length b)) ≡ 0
-      → drop (length (recordsOf y)) (written y b) ≡ drop (length (recordsOf y)) b
+  pub write-then-read : (y : Year) (buffer : List ℕ) → Sound y → writingNumber (writeAnswer y (length buffer)) ≡ 0
+      → readList (take (length (recordsOf y)) (written y buffer)) ≡ done y
+  pub records-in-front : (y : Year) (buffer : List ℕ) → writingNumber (writeAnswer y (length buffer)) ≡ 0
+      → take (length (recordsOf y)) (written y buffer) ≡ recordsOf y
+  pub nothing-behind : (y : Year) (buffer : List ℕ) → writingNumber (writeAnswer y (length buffer)) ≡ 0
+      → drop (length (recordsOf y)) (written y buffer) ≡ drop (length (recordsOf y)) buffer
   pub sixteen-a-record : (y : Year) → length (recordsOf y) ≡ (y .terms + y .courses) * 16
   pub records-read : (y : Year) → Sound y → readList (recordsOf y) ≡ done y
   pub records-fit : (y : Year) → Sound y → length (recordsOf y) ≤ 1280
-  pub read-then-write : (s : List ℕ) → AllBytes s → readingNumber (readList s .answer) ≡ 0
-      → Sound (readList s .year) × (recordsOf (readList s .year) ≡ s)
+  pub read-is-sound : (bytes : List ℕ) → readingNumber (readList bytes .answer) ≡ 0 → Sound (readList bytes .year)
+  pub read-then-write : (bytes : List ℕ) → AllBytes bytes → readingNumber (readList bytes .answer) ≡ 0
+      → recordsOf (readList bytes .year) ≡ bytes
 
 -- ---- 3
 

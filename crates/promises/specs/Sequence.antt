@@ -30,13 +30,13 @@ pub record Result : Type 0 where
 
 -- the year that is read from the front of the buffer, or the year itself where nothing was written
 abbrev pub readBack : Year → List ℕ → Year
-readBack y b =
-    choose (eqb (writingNumber (writeAnswer y (length b))) 0) (readList (take (length (recordsOf y)) (written y b)) .year) y
+readBack y buffer =
+    choose (eqb (writingNumber (writeAnswer y (length buffer))) 0) (readList (take (length (recordsOf y)) (written y buffer)) .year) y
 
 abbrev pub result : Call → Year → Result
 result (narrowBy n) y = record { number = narrowingNumber (narrow n y .answer); year = narrow n y .year }
 result filter y = record { number = filterNumber (filterOf y .answer); year = filterOf y .year }
-result (writeAndRead b) y = record { number = writingNumber (writeAnswer y (length b)); year = readBack y b }
+result (writeAndRead buffer) y = record { number = writingNumber (writeAnswer y (length buffer)); year = readBack y buffer }
 
 -- the year in hand after the calls, the first of which is the head of the list
 abbrev pub after : List Call → Year → Year
@@ -49,7 +49,7 @@ after (c ∷ cs) y = after cs (result c y .year)
 abbrev pub Asks : Year → Call → ℕ → Placing → Type 0
 Asks first (narrowBy n) number p = number ≡ 0 → Meets first n p
 Asks first filter number p = Unit {0}
-Asks first (writeAndRead b) number p = Unit {0}
+Asks first (writeAndRead buffer) number p = Unit {0}
 
 -- the placing meets every accepted narrowing of the calls, the first of which is made on y
 abbrev pub MeetsAll : Year → List Call → Year → Placing → Type 0

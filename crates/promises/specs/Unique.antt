@@ -19,7 +19,8 @@ use Rattle.filter.specs.declared.Filtered.{Filtered}
 use Rattle.boundary.specs.Calls.{readCode, imbalanceCode, filterCode, filterOut, narrowCode, narrowOut}
 use Rattle.promises.specs.Narrowings.{Narrow, narrow}
 
--- the public calls, with what each is given: years, lists of bytes, numbers, and a buffer lent to it
+-- the public calls (Year::empty, is_sound, the six narrowings, imbalance, read, write, filter, and the four for other languages), each
+-- with what it is given, a lent buffer included
 pub data PublicCall : Type 0 where
   empty : PublicCall
   sound : Year → PublicCall
@@ -38,13 +39,13 @@ Gives empty = Year
 Gives (sound y) = Bool
 Gives (narrowing n y) = Narrowed
 Gives (imbalance y) = Measured
-Gives (reading s) = Received
-Gives (writing y out) = Writing × List ℕ
+Gives (reading list) = Received
+Gives (writing y buffer) = Writing × List ℕ
 Gives (filtering y) = Filtered
-Gives (exportedRead s) = ℕ
-Gives (exportedImbalance s) = ℕ
-Gives (exportedFilter s out) = ℕ × List ℕ
-Gives (exportedNarrow s kind a b out) = ℕ × List ℕ
+Gives (exportedRead list) = ℕ
+Gives (exportedImbalance list) = ℕ
+Gives (exportedFilter list out) = ℕ × List ℕ
+Gives (exportedNarrow list kind a b out) = ℕ × List ℕ
 
 -- its contract, as the source states it
 abbrev pub Contract : (c : PublicCall) → Gives c → Type 0
@@ -52,13 +53,13 @@ Contract empty r = r ≡ emptyYear
 Contract (sound y) r = r ≡ isSound y
 Contract (narrowing n y) r = r ≡ narrow n y
 Contract (imbalance y) r = r ≡ imbalanceOf y
-Contract (reading s) r = r ≡ readList s
-Contract (writing y out) r = (r .0 ≡ writeAnswer y (length out)) × (r .1 ≡ written y out)
+Contract (reading list) r = r ≡ readList list
+Contract (writing y buffer) r = (r .0 ≡ writeAnswer y (length buffer)) × (r .1 ≡ written y buffer)
 Contract (filtering y) r = r ≡ filterOf y
-Contract (exportedRead s) r = r ≡ readCode s
-Contract (exportedImbalance s) r = r ≡ imbalanceCode s
-Contract (exportedFilter s out) r = (r .0 ≡ filterCode s (length out)) × (r .1 ≡ filterOut s out)
-Contract (exportedNarrow s kind a b out) r = (r .0 ≡ narrowCode s kind a b (length out)) × (r .1 ≡ narrowOut s kind a b out)
+Contract (exportedRead list) r = r ≡ readCode list
+Contract (exportedImbalance list) r = r ≡ imbalanceCode list
+Contract (exportedFilter list out) r = (r .0 ≡ filterCode list (length out)) × (r .1 ≡ filterOut list out)
+Contract (exportedNarrow list kind a b out) r = (r .0 ≡ narrowCode list kind a b (length out)) × (r .1 ≡ narrowOut list kind a b out)
 
 -- two results of a call that both meet its contract are the same
 abbrev pub OneResult : Type 0
