@@ -1,160 +1,35 @@
--- The calls for other languages: done, they leave the records of the year in the front of the lent buffer, as many bytes as the list has, and nothing else altered; refused, or with no plan, they leave every byte.
-use Prim.Native.Nat.{ℕ, _+_, _*_, _/_, _≤_, _<_}
+-- What the calls for other languages leave in a lent buffer. Done: the records of the year in front, as many bytes as the list has, and
+-- behind them what stood there. Refused, or with no plan: every byte as it was.
+use Prim.Native.Nat.{ℕ, _≤_, _<_}
 use mathlib.Core.List.{List, _++_}
-use mathlib.Core.Path.{_≡_, refl, ap, _∙_}
-use native.Mathlib.Omega.{arith}
-use lib.Dec.{eqb, ltb}
+use mathlib.Core.Path.{_≡_}
 use lib.ListN.{length, drop}
-use borrow.Author.Tests.{lt-ltb, le-ltb}
-use Rattle.theory.proofs.ChoiceLaws.{choose-any}
-use Rattle.year.specs.Sound.{Sound}
 use Rattle.year.specs.Numbers.{narrowingNumber}
-use Rattle.year.specs.declared.Year.{Year}
-use Rattle.year.specs.declared.Narrowed.{Narrowed}
-use Rattle.year.specs.declared.Narrowing.{Narrowing}
-use Rattle.year.specs.declared.Narrowing.the-variants as narrowing
-use Rattle.records.specs.Numbers.{faultNumber, readingNumber}
-use Rattle.records.specs.declared.Fault.{Fault}
-use Rattle.records.specs.declared.Fault.the-variants as fault
-use Rattle.records.specs.Reading.{readList, done}
-use Rattle.records.specs.Writing.{recordsOf, written}
-use Rattle.records.specs.declared.Reading.{Reading}
-use Rattle.records.specs.declared.Reading.the-variants as reading
-use Rattle.records.proofs.ListLaws.{list-read, read-front, read-sound}
-use Rattle.records.proofs.WriteLaws.{records-length, written-is}
+use Rattle.records.specs.Numbers.{readingNumber}
+use Rattle.records.specs.Reading.{readList}
+use Rattle.records.specs.Writing.{recordsOf}
 use Rattle.filter.specs.Filter.{filterOf}
 use Rattle.filter.specs.Numbers.{filterNumber}
-use Rattle.filter.specs.declared.Answer.{Answer}
-use Rattle.filter.specs.declared.Answer.the-variants.{Settled, Open, NoPlan, Unsound}
-use Rattle.boundary.specs.Calls.{leftWhenRead, filterLeft, filterOut, narrowOf, narrowLeft, narrowOut}
-use Rattle.promises.specs.Narrowings.{Narrow, place, bar, raiseLowCredits, lowerHighCredits, raiseLowCount, lowerHighCount, narrow, narrows}
-use Rattle.promises.specs.RoundTrip.{read-done}
-use Rattle.promises.specs.Rounds.{filter-narrower}
+use Rattle.boundary.specs.Calls.{filterOut, narrowOf, narrowOut}
 
--- ---- what is promised of a filtering and of a narrowing
+-- a filtering of a list into the buffer out
+pub record FilterLeaves (list out : List ℕ) : Type 0 where
+  pub fills : readingNumber (readList list .answer) ≡ 0 → length list ≤ length out
+      → filterNumber (filterOf (readList list .year) .answer) ≡ 0
+      → filterOut list out ≡ recordsOf (filterOf (readList list .year) .year) ++ drop (length list) out
+  pub unread : (readingNumber (readList list .answer) ≡ 0 → ⊥) → filterOut list out ≡ out
+  pub short : length out < length list → filterOut list out ≡ out
+  pub no-plan : (filterNumber (filterOf (readList list .year) .answer) ≡ 0 → ⊥) → filterOut list out ≡ out
 
-pub record FilterLeaves (s b : List ℕ) : Type 0 where
-  pub fills : readingNumber (readList s .answer) ≡ 0 → length s ≤ length b → filterNumber (filterOf (readList s .year) .answer) ≡ 0
-      → filterOut s b ≡ recordsOf (filterOf (readList s .year) .year) ++ drop (length s) b
-  pub unread : (readingNumber (readList s .answer) ≡ 0 → ⊥) → filterOut s b ≡ b
-  pub short : length b < length s → filterOut s b ≡ b
-  pub no-plan : (filterNumber (filterOf (readList s .year) .answer) ≡ 0 → ⊥) → filterOut s b ≡ b
+-- a narrowing of a list, of any kind and with any two numbers, into the buffer out
+pub record NarrowLeaves (list : List ℕ) (kind a b : ℕ) (out : List ℕ) : Type 0 where
+  pub fills : readingNumber (readList list .answer) ≡ 0 → length list ≤ length out
+      → narrowingNumber (narrowOf (readList list .year) kind a b .answer) ≡ 0
+      → narrowOut list kind a b out ≡ recordsOf (narrowOf (readList list .year) kind a b .year) ++ drop (length list) out
+  pub unread : (readingNumber (readList list .answer) ≡ 0 → ⊥) → narrowOut list kind a b out ≡ out
+  pub short : length out < length list → narrowOut list kind a b out ≡ out
+  pub refused : (narrowingNumber (narrowOf (readList list .year) kind a b .answer) ≡ 0 → ⊥) → narrowOut list kind a b out ≡ out
 
-pub record NarrowLeaves (s : List ℕ) (kind i j : ℕ) (b : List ℕ) : Type 0 where
-  pub fills : readingNumber (readList s .answer) ≡ 0 → length s ≤ length b → narrowingNumber (narrowOf (readList s .year) kind i j .answer) ≡ 0
-      → narrowOut s kind i j b ≡ recordsOf (narrowOf (readList s .year) kind i j .year) ++ drop (length s) b
-  pub unread : (readingNumber (readList s .answer) ≡ 0 → ⊥) → narrowOut s kind i j b ≡ b
-  pub short : length b < length s → narrowOut s kind i j b ≡ b
-  pub refused : (narrowingNumber (narrowOf (readList s .year) kind i j .answer) ≡ 0 → ⊥) → narrowOut s kind i j b ≡ b
-
--- ---- reading
-
-left-done : (a : Reading) → readingNumber a ≡ 0 → (own b : List ℕ) → leftWhenRead a own b ≡ own
-left-done reading.Done e own b = refl
-left-done (reading.Refused f k) e own b = go f e
-  where
-    go : (f : Fault) → faultNumber f ≡ 0 → b ≡ own
-    go fault.Length e = absurd (omega arith)
-    go fault.Letter e = absurd (omega arith)
-    go fault.Number e = absurd (omega arith)
-    go fault.Size e = absurd (omega arith)
-    go fault.Order e = absurd (omega arith)
-    go fault.List e = absurd (omega arith)
-    go fault.Padding e = absurd (omega arith)
-
-left-unread : (a : Reading) → (readingNumber a ≡ 0 → ⊥) → (own b : List ℕ) → leftWhenRead a own b ≡ b
-left-unread reading.Done n own b = absurd (n refl)
-left-unread (reading.Refused f k) n own b = refl
-
-left-same : (a : Reading) (own b : List ℕ) → own ≡ b → leftWhenRead a own b ≡ b
-left-same reading.Done own b e = e
-left-same (reading.Refused f k) own b e = refl
-
--- a list has sixteen bytes for each term and course that was read
-list-length : (s : List ℕ) (y : Year) → readList s ≡ done y → length s ≡ (y .terms + y .courses) * 16
-list-length s y e =
-    let l = list-read s y e in
-    let f = read-front s (length s / 16) y (l .2) in
-    omega (arith, l .1, f .count)
-
--- a sound year of as many terms and courses fills as many bytes
-filled : (s b : List ℕ) (y z : Year) → readList s ≡ done y → Sound z → z .terms ≡ y .terms → z .courses ≡ y .courses → length s ≤ length b
-    → written z b ≡ recordsOf z ++ drop (length s) b
-filled s b y z e sound terms courses room =
-    let l : length (recordsOf z) ≡ length s = omega (arith, records-length z, list-length s y e) in
-    written-is z b sound (omega arith) ∙ ap (λ (n : ℕ). recordsOf z ++ drop n b) l
-
--- ---- filtering
-
-filter-done : (a : Answer) → filterNumber a ≡ 0 → (z : Year) (b : List ℕ) → filterLeft a z b ≡ written z b
-filter-done (Settled n) e z b = refl
-filter-done (Open n) e z b = refl
-filter-done (NoPlan r n) e z b = absurd (omega arith)
-filter-done Unsound e z b = absurd (omega arith)
-
-filter-not : (a : Answer) → (filterNumber a ≡ 0 → ⊥) → (z : Year) (b : List ℕ) → filterLeft a z b ≡ b
-filter-not (Settled n) e z b = absurd (e refl)
-filter-not (Open n) e z b = absurd (e refl)
-filter-not (NoPlan r n) e z b = refl
-filter-not Unsound e z b = refl
-
-pub filter-leaves : (s b : List ℕ) → FilterLeaves s b
-unfolding filterOut
-filter-leaves s b =
-    let y = readList s .year in
-    let z = filterOf y .year in record {
-      fills = λ r room e.
-          let is = read-done s r in
-          let w = filter-narrower y (read-sound s y is) in
-          left-done (readList s .answer) r _ b ∙ rw (le-ltb (length b) (length s) room) (filter-done (filterOf y .answer) e z b ∙ filled s b y z is (w .sound) (w .terms-same) (w .courses-same) room);
-      unread = λ n. left-unread (readList s .answer) n _ b;
-      short = λ h. left-same (readList s .answer) _ b (rw (lt-ltb (length b) (length s) h) refl);
-      no-plan = λ n. left-same (readList s .answer) _ b (choose-any (λ (o : List ℕ). o ≡ b) (ltb (length b) (length s)) b (filterLeft (filterOf y .answer) z b) refl (filter-not (filterOf y .answer) n z b));
-    }
-
--- ---- narrowing
-
-narrow-done : (a : Narrowing) → narrowingNumber a ≡ 0 → (z : Year) (b : List ℕ) → narrowLeft a z b ≡ written z b
-narrow-done narrowing.Done e z b = refl
-narrow-done narrowing.Unsound e z b = absurd (omega arith)
-narrow-done narrowing.Missing e z b = absurd (omega arith)
-narrow-done narrowing.Outside e z b = absurd (omega arith)
-narrow-done narrowing.Crossing e z b = absurd (omega arith)
-
-narrow-not : (a : Narrowing) → (narrowingNumber a ≡ 0 → ⊥) → (z : Year) (b : List ℕ) → narrowLeft a z b ≡ b
-narrow-not narrowing.Done e z b = absurd (e refl)
-narrow-not narrowing.Unsound e z b = refl
-narrow-not narrowing.Missing e z b = refl
-narrow-not narrowing.Outside e z b = refl
-narrow-not narrowing.Crossing e z b = refl
-
--- what any kind of narrowing hands back
-abbrev Same : Year → Narrowed → Type 0
-Same y r = Sound (r .year) × (r .year .terms ≡ y .terms) × (r .year .courses ≡ y .courses)
-
-same-by : (y : Year) → Sound y → (n : Narrow) → Same y (narrow n y)
-same-by y s n = let w = narrows n y in (w .stays-sound s, w .alike .terms-same, w .alike .courses-same)
-
-narrow-same : (y : Year) → Sound y → (kind i j : ℕ) → Same y (narrowOf y kind i j)
-unfolding narrowOf
-narrow-same y s kind i j =
-    choose-any (Same y) (eqb kind 0) _ _ (same-by y s (place i j))
-    (choose-any (Same y) (eqb kind 1) _ _ (same-by y s (bar i j))
-    (choose-any (Same y) (eqb kind 2) _ _ (same-by y s (raiseLowCredits i j))
-    (choose-any (Same y) (eqb kind 3) _ _ (same-by y s (lowerHighCredits i j))
-    (choose-any (Same y) (eqb kind 4) _ _ (same-by y s (raiseLowCount i j))
-    (choose-any (Same y) (eqb kind 5) _ _ (same-by y s (lowerHighCount i j)) (s, refl, refl))))))
-
-pub narrow-leaves : (s : List ℕ) (kind i j : ℕ) (b : List ℕ) → NarrowLeaves s kind i j b
-unfolding narrowOut
-narrow-leaves s kind i j b =
-    let y = readList s .year in
-    let n = narrowOf y kind i j in record {
-      fills = λ r room e.
-          let is = read-done s r in
-          let w = narrow-same y (read-sound s y is) kind i j in
-          left-done (readList s .answer) r _ b ∙ rw (le-ltb (length b) (length s) room) (narrow-done (n .answer) e (n .year) b ∙ filled s b y (n .year) is (w .0) (w .1) (w .2) room);
-      unread = λ f. left-unread (readList s .answer) f _ b;
-      short = λ h. left-same (readList s .answer) _ b (rw (lt-ltb (length b) (length s) h) refl);
-      refused = λ f. left-same (readList s .answer) _ b (choose-any (λ (o : List ℕ). o ≡ b) (ltb (length b) (length s)) b (narrowLeft (n .answer) (n .year) b) refl (narrow-not (n .answer) f (n .year) b));
-    }
+pub record BufferLeft : Type 0 where
+  pub by-filtering : (list out : List ℕ) → FilterLeaves list out
+  pub by-narrowing : (list : List ℕ) (kind a b : ℕ) (out : List ℕ) → NarrowLeaves list kind a b out

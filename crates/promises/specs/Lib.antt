@@ -1,14 +1,13 @@
--- The promises. Read Demands first, then Table and Unique; the other modules lead up to them.
-pub mod Rounds
-pub mod Narrowings
-pub mod RoundsKept
-pub mod OnePlacing
-pub mod SpareRoom
-pub mod SettledPlan
-pub mod ImbalancePlan
-pub mod RoundTrip
-pub mod Sequence
+-- To be read: all that is promised, as statements; their proofs are in proofs/ and need not be read.
+-- Read Demands, Table and Unique first, then the words they are written in (Narrowings, Rounds, Sequence, OnePlacing), then the rest.
+pub mod Demands
 pub mod Table
 pub mod Unique
+pub mod Narrowings
+pub mod Rounds
+pub mod Sequence
+pub mod OnePlacing
+pub mod ImbalancePlan
+pub mod SpareRoom
 pub mod Boundary
-pub mod Demands
+pub mod Promises

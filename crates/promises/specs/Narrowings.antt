@@ -1,36 +1,21 @@
--- The six narrowings: which plans a narrowed year has, that it stays sound, what a refusal leaves, and the number of each answer.
-use Prim.Native.Nat.{ℕ, _-_, _^_, _≤_, _<_, min, max}
-use mathlib.Core.Bool.{Bool, true, false, not, _||_, true≢false}
+-- The six narrowings: what each makes of a year, what it asks of a placing, which number it is due; and what is promised of each.
+use Prim.Native.Nat.{ℕ, _^_, _≤_}
+use mathlib.Core.Bool.{Bool, true, false, not, _||_}
 use mathlib.Core.Logic.{_↔_}
-use mathlib.Core.Path.{_≡_, refl, sym, ap, _∙_}
-use native.Mathlib.Omega.{arith}
-use native.Mathlib.Decide.{decLt}
+use mathlib.Core.Path.{_≡_}
 use lib.Dec.{eqb, leb, ltb}
-use borrow.Author.Tests.{eqb-true, eqb-false, leb-false, ltb-false, eq-eqb, lt-ltb, le-ltb}
 use Rattle.theory.specs.Choice.{choose}
-use Rattle.theory.proofs.ChoiceLaws.{choose-case}
-use Rattle.theory.proofs.TestLaws.{or-false}
-use Rattle.theory.specs.Bits.{has}
-use Rattle.theory.proofs.BitLaws.{has-power}
-use Rattle.year.specs.Year.{termAt, courseAt, list, lists, lowCredits, highCredits, lowCount, highCount, withTerm, placed, struck}
-use Rattle.year.specs.Tight.{creditsWithin, countsWithin}
-use Rattle.year.specs.Narrow.{answered, checked, noSuch, placing, barring, placeOf, barOf, tightened, raiseLowCreditsOf, lowerHighCreditsOf, raiseLowCountOf, lowerHighCountOf}
+use Rattle.year.specs.Year.{courseAt, weight, list, lists, lowCredits, highCredits, lowCount, highCount}
+use Rattle.year.specs.Narrow.{placeOf, barOf, raiseLowCreditsOf, lowerHighCreditsOf, raiseLowCountOf, lowerHighCountOf}
 use Rattle.year.specs.Plans.{Placing, creditsIn, countIn, Plan}
-use Rattle.year.specs.Sound.{isSound, Sound, TermSound}
+use Rattle.year.specs.Sound.{isSound, Sound}
 use Rattle.year.specs.Numbers.{narrowingNumber}
-use Rattle.year.specs.declared.Tight.{Tight}
 use Rattle.year.specs.declared.Year.{Year}
-use Rattle.year.specs.declared.Narrowing.{Narrowing}
-use Rattle.year.specs.declared.Narrowing.the-variants.{Done, Unsound, Missing, Outside, Crossing}
 use Rattle.year.specs.declared.Narrowed.{Narrowed}
-use Rattle.year.proofs.SoundLaws.{sound-of}
-use Rattle.year.proofs.DoorLaws.{with-term-sound, placed-sound, struck-sound}
-use Rattle.rules.proofs.Alike.{Alike, alike-rest, alike-list}
-use Rattle.rules.proofs.DoorPlans.{credits-plans, counts-plans, placed-plans, struck-plans}
 
 -- ---- the calls
 
--- a course and a term; a term and a bound
+-- place course i in term j; bar course i from term j; raise or lower a bound of term j to v
 pub data Narrow : Type 0 where
   place bar : ℕ → ℕ → Narrow
   raiseLowCredits lowerHighCredits raiseLowCount lowerHighCount : ℕ → ℕ → Narrow
@@ -43,7 +28,7 @@ narrow (lowerHighCredits j v) y = lowerHighCreditsOf y j v
 narrow (raiseLowCount j v) y = raiseLowCountOf y j v
 narrow (lowerHighCount j v) y = lowerHighCountOf y j v
 
--- a placing meets a narrowing
+-- a placing of the courses of y meets a narrowing
 abbrev pub Meets : Year → Narrow → Placing → Type 0
 Meets y (place i j) p = p i ≡ j
 Meets y (bar i j) p = p i ≡ j → ⊥
@@ -81,198 +66,31 @@ crossing y (lowerHighCredits j v) = ltb v (lowCredits y j)
 crossing y (raiseLowCount j v) = ltb (highCount y j) v
 crossing y (lowerHighCount j v) = ltb v (lowCount y j)
 
--- 8 first, then in rising number
+-- 8 first, then in rising number; 0 where it is done
 abbrev pub numberDue : Year → Narrow → ℕ
 numberDue y n = choose (isSound y) (choose (missing y n) 10 (choose (outside n) 11 (choose (crossing y n) 12 0))) 8
 
--- ---- what is shown of an answer r to the narrowing n of y
+-- ---- what is promised
 
-pub record Narrows (y : Year) (n : Narrow) (r : Narrowed) : Type 0 where
-  pub stays-sound : Sound y → Sound (r .year)
-  pub alike : Alike y (r .year)
+-- z is a sound year of the terms, courses and weights of y, with no bound looser and no list longer
+pub record NoLooser (y z : Year) : Type 0 where
+  pub sound : Sound z
+  pub terms-same : z .terms ≡ y .terms
+  pub courses-same : z .courses ≡ y .courses
+  pub weight-same : (i : ℕ) → weight z i ≡ weight y i
+  pub low-credits : (k : ℕ) → lowCredits y k ≤ lowCredits z k
+  pub high-credits : (k : ℕ) → highCredits z k ≤ highCredits y k
+  pub low-count : (k : ℕ) → lowCount y k ≤ lowCount z k
+  pub high-count : (k : ℕ) → highCount z k ≤ highCount y k
+  pub lists-less : (i k : ℕ) → lists (courseAt z i) k ≡ true → lists (courseAt y i) k ≡ true
+
+-- r, the answer to the narrowing n of y: of a sound year it hands back that year narrowed; done, the plans of the year handed back are
+-- the plans of y that meet n; refused, it is y; and the number is the one due
+pub record NarrowedBy (y : Year) (n : Narrow) (r : Narrowed) : Type 0 where
+  pub no-looser : Sound y → NoLooser y (r .year)
   pub plans : narrowingNumber (r .answer) ≡ 0 → (p : Placing) → Plan (r .year) p ↔ (Plan y p × Meets y n p)
   pub refused : (narrowingNumber (r .answer) ≡ 0 → ⊥) → r .year ≡ y
   pub number : narrowingNumber (r .answer) ≡ numberDue y n
 
-module _ (y : Year) (n : Narrow) where
-  refusal : (a : Narrowing) → (narrowingNumber a ≡ 0 → ⊥) → narrowingNumber a ≡ numberDue y n → Narrows y n (answered a y)
-  refusal a ne e = record { stays-sound = λ s. s; alike = alike-rest y; plans = λ z p. absurd (ne z); refused = λ q. refl; number = e }
-
-  done : (z : Year) → Sound z → Alike y z → ((p : Placing) → Plan z p ↔ (Plan y p × Meets y n p)) → 0 ≡ numberDue y n → Narrows y n (answered Done z)
-  done z s a h e = record { stays-sound = λ q. s; alike = a; plans = λ q p. h p; refused = λ q. absurd (q refl); number = e }
-
-  -- refusals 8, 10 and 11 are in order: it is left to show what the narrowing does then
-  past : (r : Narrowed) → (Sound y → missing y n ≡ false → numberDue y n ≡ choose (crossing y n) 12 0 → Narrows y n r)
-      → Narrows y n (checked y (missing y n) (outside n) r)
-  past r h =
-      choose-case (Narrows y n) (isSound y) (choose (missing y n) (answered Missing y) (choose (outside n) (answered Outside y) r)) (answered Unsound y)
-      (λ e. choose-case (Narrows y n) (missing y n) (answered Missing y) (choose (outside n) (answered Outside y) r)
-      (λ m. refusal Missing (λ z. omega arith) (rw (e, m)))
-      (λ m. choose-case (Narrows y n) (outside n) (answered Outside y) r
-      (λ o. refusal Outside (λ z. omega arith) (rw (e, m, o)))
-      (λ o. h (sound-of y e) m (rw (e, m, o)))))
-      (λ e. refusal Unsound (λ z. omega arith) (rw e))
-
--- ---- bounds
-
-tight-narrows : (y : Year) (n : Narrow) (j : ℕ) (w : Tight) → Sound y → j < y .terms → numberDue y n ≡ choose (w .crossed) 12 0
-    → (w .crossed ≡ false → TermSound (w .term)) → ((p : Placing) → Plan (withTerm y j (w .term)) p ↔ (Plan y p × Meets y n p))
-    → (w .altered ≡ false → (p : Placing) → Plan y p → Meets y n p) → Narrows y n (tightened y j w)
-tight-narrows y n j w s l due sound plans still =
-    choose-case (Narrows y n) (w .crossed) (answered Crossing y) (choose (w .altered) (answered Done (withTerm y j (w .term))) (answered Done y))
-    (λ c. refusal y n Crossing (λ z. omega arith) (rw (due, c)))
-    (λ c.
-    choose-case (Narrows y n) (w .altered) (answered Done (withTerm y j (w .term))) (answered Done y)
-    (λ e. done y n (withTerm y j (w .term)) (with-term-sound y j (w .term) s l (sound c)) (record { terms-same = refl; courses-same = refl; weight-same = λ i. refl }) plans (rw (due, c)))
-    (λ e. done y n y s (alike-rest y) (λ p. (λ h. (h, still e p h), λ h. h .0)) (rw (due, c))))
-
-same-test : (a b c d : ℕ) → (a < b → c < d) → (c < d → a < b) → ltb a b ≡ ltb c d
-same-test a b c d f g = go (decLt c d)
-  where
-    go : Dec (c < d) → ltb a b ≡ ltb c d
-    go (yes h) = lt-ltb a b (g h) ∙ sym (lt-ltb c d h)
-    go (no h) =
-        let n : a < b → ⊥ = λ q. h (f q) in
-        le-ltb a b (omega arith) ∙ sym (le-ltb c d (omega arith))
-
--- a low bound raised to v crosses the high bound exactly if v passes it, and is as it was only if it is v or more; and so lowered
-module _ (low high v : ℕ) where
-  raise-crossed : low ≤ high → ltb (min high high) (max low v) ≡ ltb high v
-  raise-crossed h = same-test (min high high) (max low v) high v (λ q. omega arith) (λ q. omega arith)
-
-  raise-still : ltb low v || ltb high high ≡ false → v ≤ low
-  raise-still e = ltb-false low v (or-false (ltb low v) (ltb high high) e .0)
-
-  lower-crossed : low ≤ high → ltb (min high v) (max low low) ≡ ltb v low
-  lower-crossed h = same-test (min high v) (max low low) v low (λ q. omega arith) (λ q. omega arith)
-
-  lower-still : ltb low low || ltb v high ≡ false → high ≤ v
-  lower-still e = ltb-false v high (or-false (ltb low low) (ltb v high) e .1)
-
-module _ (y : Year) (j v : ℕ) where
-  raise-low-credits : Narrows y (raiseLowCredits j v) (raiseLowCreditsOf y j v)
-  unfolding raiseLowCreditsOf creditsWithin
-  raise-low-credits =
-      past y (raiseLowCredits j v) (tightened y j w)
-      (λ s m due.
-      let l : j < y .terms = leb-false (y .terms) j m in
-      let t = s .term-sound j l in
-      tight-narrows y (raiseLowCredits j v) j w s l (due ∙ ap (λ b. choose b 12 0) (sym (raise-crossed (lowCredits y j) (highCredits y j) v (t .credits-ordered))))
-      (λ c. omega (arith, t, ltb-false (min (highCredits y j) (highCredits y j)) (max (lowCredits y j) v) c))
-      (λ p. (
-        λ h. let g = credits-plans y j v (highCredits y j) p s l .0 h in (g .0, g .1),
-        λ h. credits-plans y j v (highCredits y j) p s l .1 (h .0, h .1, h .0 .credits-high j l),
-      ))
-      (λ e p h. omega (arith, raise-still (lowCredits y j) (highCredits y j) v e, h .credits-low j l)))
-    where
-      w : Tight
-      w = creditsWithin (termAt y j) v (highCredits y j)
-
-  lower-high-credits : Narrows y (lowerHighCredits j v) (lowerHighCreditsOf y j v)
-  unfolding lowerHighCreditsOf creditsWithin
-  lower-high-credits =
-      past y (lowerHighCredits j v) (tightened y j w)
-      (λ s m due.
-      let l : j < y .terms = leb-false (y .terms) j m in
-      let t = s .term-sound j l in
-      tight-narrows y (lowerHighCredits j v) j w s l (due ∙ ap (λ b. choose b 12 0) (sym (lower-crossed (lowCredits y j) (highCredits y j) v (t .credits-ordered))))
-      (λ c. omega (arith, t, ltb-false (min (highCredits y j) v) (max (lowCredits y j) (lowCredits y j)) c))
-      (λ p. (
-        λ h. let g = credits-plans y j (lowCredits y j) v p s l .0 h in (g .0, g .2),
-        λ h. credits-plans y j (lowCredits y j) v p s l .1 (h .0, h .0 .credits-low j l, h .1),
-      ))
-      (λ e p h. omega (arith, lower-still (lowCredits y j) (highCredits y j) v e, h .credits-high j l)))
-    where
-      w : Tight
-      w = creditsWithin (termAt y j) (lowCredits y j) v
-
-  raise-low-count : Narrows y (raiseLowCount j v) (raiseLowCountOf y j v)
-  unfolding raiseLowCountOf countsWithin
-  raise-low-count =
-      past y (raiseLowCount j v) (tightened y j w)
-      (λ s m due.
-      let l : j < y .terms = leb-false (y .terms) j m in
-      let t = s .term-sound j l in
-      tight-narrows y (raiseLowCount j v) j w s l (due ∙ ap (λ b. choose b 12 0) (sym (raise-crossed (lowCount y j) (highCount y j) v (t .count-ordered))))
-      (λ c. omega (arith, t, ltb-false (min (highCount y j) (highCount y j)) (max (lowCount y j) v) c))
-      (λ p. (
-        λ h. let g = counts-plans y j v (highCount y j) p s l .0 h in (g .0, g .1),
-        λ h. counts-plans y j v (highCount y j) p s l .1 (h .0, h .1, h .0 .count-high j l),
-      ))
-      (λ e p h. omega (arith, raise-still (lowCount y j) (highCount y j) v e, h .count-low j l)))
-    where
-      w : Tight
-      w = countsWithin (termAt y j) v (highCount y j)
-
-  lower-high-count : Narrows y (lowerHighCount j v) (lowerHighCountOf y j v)
-  unfolding lowerHighCountOf countsWithin
-  lower-high-count =
-      past y (lowerHighCount j v) (tightened y j w)
-      (λ s m due.
-      let l : j < y .terms = leb-false (y .terms) j m in
-      let t = s .term-sound j l in
-      tight-narrows y (lowerHighCount j v) j w s l (due ∙ ap (λ b. choose b 12 0) (sym (lower-crossed (lowCount y j) (highCount y j) v (t .count-ordered))))
-      (λ c. omega (arith, t, ltb-false (min (highCount y j) v) (max (lowCount y j) (lowCount y j)) c))
-      (λ p. (
-        λ h. let g = counts-plans y j (lowCount y j) v p s l .0 h in (g .0, g .2),
-        λ h. counts-plans y j (lowCount y j) v p s l .1 (h .0, h .0 .count-low j l, h .1),
-      ))
-      (λ e p h. omega (arith, lower-still (lowCount y j) (highCount y j) v e, h .count-high j l)))
-    where
-      w : Tight
-      w = countsWithin (termAt y j) (lowCount y j) v
-
--- ---- lists
-
-named : (y : Year) (i j : ℕ) → noSuch y i j ≡ false → (i < y .courses) × (j < y .terms)
-named y i j e =
-    let r = or-false (leb (y .courses) i) (leb (y .terms) j) e in
-    (leb-false (y .courses) i (r .0), leb-false (y .terms) j (r .1))
-
-module _ (y : Year) (i j : ℕ) where
-  placing-narrows : Narrows y (place i j) (placeOf y i j)
-  unfolding placeOf
-  placing-narrows =
-      past y (place i j) (placing y i j)
-      (λ s m due.
-      let k = named y i j m in
-      choose-case (Narrows y (place i j)) (lists (courseAt y i) j) (answered Done (placed y i j)) (answered Crossing y)
-      (λ e. done y (place i j) (placed y i j) (placed-sound y i j s (k .0) (k .1)) (alike-list y i (2 ^ j) s (k .0)) (λ p. placed-plans y i j p s (k .0) e) (rw (due, e)))
-      (λ e. refusal y (place i j) Crossing (λ z. omega arith) (rw (due, e))))
-
-  -- a course that does not list j is not in j, and j alone is not its list
-  unlisted : lists (courseAt y i) j ≡ false → eqb (list y i) (2 ^ j) ≡ false
-  unlisted e = go (eqb (list y i) (2 ^ j)) refl
-    where
-      go : (b : Bool) → eqb (list y i) (2 ^ j) ≡ b → b ≡ false
-      go true q = sym (ap (λ l. has l j) (eqb-true (list y i) (2 ^ j) q) ∙ has-power j j ∙ eq-eqb j j refl) ∙ e
-      go false q = refl
-
-  barring-narrows : Narrows y (bar i j) (barOf y i j)
-  unfolding barOf
-  barring-narrows =
-      past y (bar i j) (barring y i j)
-      (λ s m due.
-      let k = named y i j m in
-      choose-case (Narrows y (bar i j)) (lists (courseAt y i) j)
-      (choose (eqb (list y i) (2 ^ j)) (answered Crossing y) (answered Done (struck y i j))) (answered Done y)
-      (λ e.
-      choose-case (Narrows y (bar i j)) (eqb (list y i) (2 ^ j)) (answered Crossing y) (answered Done (struck y i j))
-      (λ q. refusal y (bar i j) Crossing (λ z. omega arith) (rw (due, q)))
-      (λ q.
-      done y (bar i j) (struck y i j) (struck-sound y i j s (k .0) e (eqb-false (list y i) (2 ^ j) q)) (alike-list y i (list y i - 2 ^ j) s (k .0))
-      (λ p. struck-plans y i j p s (k .0) e) (rw (due, q))))
-      (λ e.
-      done y (bar i j) y s (alike-rest y)
-      (λ p. (λ h. (h, λ q. true≢false (sym (h .listed i (k .0)) ∙ ap (lists (courseAt y i)) q ∙ e)), λ h. h .0))
-      (rw (due, unlisted e))))
-
--- ---- all six
-
-pub narrows : (n : Narrow) (y : Year) → Narrows y n (narrow n y)
-narrows (place i j) y = placing-narrows y i j
-narrows (bar i j) y = barring-narrows y i j
-narrows (raiseLowCredits j v) y = raise-low-credits y j v
-narrows (lowerHighCredits j v) y = lower-high-credits y j v
-narrows (raiseLowCount j v) y = raise-low-count y j v
-narrows (lowerHighCount j v) y = lower-high-count y j v
+abbrev pub EachNarrowing : Type 0
+EachNarrowing = (n : Narrow) (y : Year) → NarrowedBy y n (narrow n y)

@@ -1,8 +1,8 @@
--- Each public call's contract allows one result, lent bytes included. A contract is an equation, so this is one statement over all calls.
+-- Each public call's contract allows one result, lent bytes included: one statement over all public calls.
 use Prim.Native.Nat.{ℕ}
 use mathlib.Core.Bool.{Bool}
 use mathlib.Core.List.{List}
-use mathlib.Core.Path.{_≡_, sym, _∙_}
+use mathlib.Core.Path.{_≡_}
 use lib.ListN.{length}
 use Rattle.year.specs.Year.{emptyYear}
 use Rattle.year.specs.Sound.{isSound}
@@ -19,7 +19,8 @@ use Rattle.filter.specs.declared.Filtered.{Filtered}
 use Rattle.boundary.specs.Calls.{readCode, imbalanceCode, filterCode, filterOut, narrowCode, narrowOut}
 use Rattle.promises.specs.Narrowings.{Narrow, narrow}
 
--- the public calls, with what each is given
+-- the public calls (Year::empty, is_sound, the six narrowings, imbalance, read, write, filter, and the four for other languages), each
+-- with what it is given, a lent buffer included
 pub data PublicCall : Type 0 where
   empty : PublicCall
   sound : Year → PublicCall
@@ -38,13 +39,13 @@ Gives empty = Year
 Gives (sound y) = Bool
 Gives (narrowing n y) = Narrowed
 Gives (imbalance y) = Measured
-Gives (reading s) = Received
-Gives (writing y b) = Writing × List ℕ
+Gives (reading list) = Received
+Gives (writing y buffer) = Writing × List ℕ
 Gives (filtering y) = Filtered
-Gives (exportedRead s) = ℕ
-Gives (exportedImbalance s) = ℕ
-Gives (exportedFilter s b) = ℕ × List ℕ
-Gives (exportedNarrow s kind i j b) = ℕ × List ℕ
+Gives (exportedRead list) = ℕ
+Gives (exportedImbalance list) = ℕ
+Gives (exportedFilter list out) = ℕ × List ℕ
+Gives (exportedNarrow list kind a b out) = ℕ × List ℕ
 
 -- its contract, as the source states it
 abbrev pub Contract : (c : PublicCall) → Gives c → Type 0
@@ -52,23 +53,14 @@ Contract empty r = r ≡ emptyYear
 Contract (sound y) r = r ≡ isSound y
 Contract (narrowing n y) r = r ≡ narrow n y
 Contract (imbalance y) r = r ≡ imbalanceOf y
-Contract (reading s) r = r ≡ readList s
-Contract (writing y b) r = (r .0 ≡ writeAnswer y (length b)) × (r .1 ≡ written y b)
+Contract (reading list) r = r ≡ readList list
+Contract (writing y buffer) r = (r .0 ≡ writeAnswer y (length buffer)) × (r .1 ≡ written y buffer)
 Contract (filtering y) r = r ≡ filterOf y
-Contract (exportedRead s) r = r ≡ readCode s
-Contract (exportedImbalance s) r = r ≡ imbalanceCode s
-Contract (exportedFilter s b) r = (r .0 ≡ filterCode s (length b)) × (r .1 ≡ filterOut s b)
-Contract (exportedNarrow s kind i j b) r = (r .0 ≡ narrowCode s kind i j (length b)) × (r .1 ≡ narrowOut s kind i j b)
+Contract (exportedRead list) r = r ≡ readCode list
+Contract (exportedImbalance list) r = r ≡ imbalanceCode list
+Contract (exportedFilter list out) r = (r .0 ≡ filterCode list (length out)) × (r .1 ≡ filterOut list out)
+Contract (exportedNarrow list kind a b out) r = (r .0 ≡ narrowCode list kind a b (length out)) × (r .1 ≡ narrowOut list kind a b out)
 
-pub one-result : (c : PublicCall) (r s : Gives c) → Contract c r → Contract c s → r ≡ s
-one-result empty r s p q = p ∙ sym q
-one-result (sound y) r s p q = p ∙ sym q
-one-result (narrowing n y) r s p q = p ∙ sym q
-one-result (imbalance y) r s p q = p ∙ sym q
-one-result (reading l) r s p q = p ∙ sym q
-one-result (writing y b) r s p q = λ i. ((p .0 ∙ sym (q .0)) i, (p .1 ∙ sym (q .1)) i)
-one-result (filtering y) r s p q = p ∙ sym q
-one-result (exportedRead l) r s p q = p ∙ sym q
-one-result (exportedImbalance l) r s p q = p ∙ sym q
-one-result (exportedFilter l b) r s p q = λ i. ((p .0 ∙ sym (q .0)) i, (p .1 ∙ sym (q .1)) i)
-one-result (exportedNarrow l kind a c b) r s p q = λ i. ((p .0 ∙ sym (q .0)) i, (p .1 ∙ sym (q .1)) i)
+-- two results of a call that both meet its contract are the same
+abbrev pub OneResult : Type 0
+OneResult = (c : PublicCall) (r s : Gives c) → Contract c r → Contract c s → r ≡ s

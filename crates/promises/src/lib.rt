@@ -1,1 +1,1 @@
-// What was promised: statements and proofs about the definitions, no code.
+// What is promised: statements in specs/, their proofs in proofs/, no code.

@@ -9,7 +9,7 @@ use borrow.Author.Tests.{eqb-true, eq-eqb}
 use Rattle.theory.proofs.ChoiceLaws.{choose-case}
 use Rattle.theory.specs.Bits.{has}
 use Rattle.theory.proofs.BitLaws.{has-power}
-use Rattle.theory.specs.Sum.{pick, sum}
+use Rattle.theory.specs.Sum.{pick}
 use Rattle.theory.proofs.SumLaws.{sum-single}
 use Rattle.theory.proofs.TestLaws.{any-true, any-of, all-at, all-of}
 use Rattle.year.specs.Year.{courseAt, list, isFixed}
@@ -24,18 +24,14 @@ use Rattle.filter.specs.Filter.{atRest, filterOf}
 use Rattle.filter.specs.Numbers.{filterNumber, isSettled}
 use Rattle.filter.specs.declared.Answer.the-variants.{Settled, Open}
 use Rattle.filter.specs.declared.Filtered.{Filtered}
-use Rattle.promises.specs.Rounds.{Altering, altering-narrower, Ends, no-plan, at-rest, filtering, filter-narrower}
-use Rattle.promises.specs.RoundsKept.{filter-kept}
-use Rattle.promises.specs.OnePlacing.{PlacedBy, placed-within, placed-stays, rest-plan}
+use Rattle.filter.proofs.RoundLaws.{filter-narrower}
+use Rattle.promises.specs.Rounds.{Altering, Ends, finds-no-plan, comes-to-rest}
+use Rattle.promises.specs.OnePlacing.{PlacedBy, theTerm, thePlacing, OnePlacing}
+use Rattle.promises.proofs.Rounds.{altering-narrower, filter-runs}
+use Rattle.promises.proofs.RoundsKept.{filter-kept}
+use Rattle.promises.proofs.OnePlacing.{placed-within, placed-stays, rest-plan}
 
 -- ---- that placing
-
--- the term of a course that has one
-unfoldable pub theTerm : Course → ℕ
-theTerm c = sum 16 (λ k. pick (isFixed c k) k)
-
-abbrev pub thePlacing : Year → Placing
-thePlacing y i = theTerm (courseAt y i)
 
 the-term : (c : Course) → isPlaced c ≡ true → c .list ≡ 2 ^ theTerm c
 unfolding isPlaced theTerm
@@ -62,6 +58,9 @@ all-placed y p s h =
     let fixed : isFixed (courseAt y i) (p i) ≡ true = eq-eqb (list y i) (2 ^ p i) (h i l) in
     any-of 16 (isFixed (courseAt y i)) (p i) (omega (arith, s, placed-within y p h s i l)) fixed)
 
+pub one-placing : OnePlacing
+one-placing = record { placed-there = placed-by; all-placed = all-placed }
+
 -- ---- filtering
 
 module _ {y z : Year} {n : ℕ} (s : Sound y) (a : Altering y n z) where
@@ -69,20 +68,20 @@ module _ {y z : Year} {n : ℕ} (s : Sound y) (a : Altering y n z) where
   sound-last = altering-narrower s a .sound
 
   ends-settled : (p : Placing) → PlacedBy y p → {r : Filtered} → Ends y n z r → (filterNumber (r .answer) ≡ 13 → ⊥) → isSettled (r .answer) ≡ true
-  ends-settled p h (no-plan e) d = absurd (d refl)
-  ends-settled p h (at-rest e g) d = rw (all-placed z p sound-last (placed-stays y p z (altering-narrower s a) h))
+  ends-settled p h (finds-no-plan e) d = absurd (d refl)
+  ends-settled p h (comes-to-rest e g) d = rw (all-placed z p sound-last (placed-stays y p z (altering-narrower s a) h))
 
   settled-placed : (k : ℕ) → isSettled (atRest z k) ≡ true → allPlaced z ≡ true
   settled-placed k = choose-case (λ b. isSettled b ≡ true → allPlaced z ≡ true) (allPlaced z) (Settled k) (Open k) (λ e q. e) (λ e q. absurd (true≢false (sym q)))
 
   ends-placed : {r : Filtered} → Ends y n z r → isSettled (r .answer) ≡ true → allPlaced (r .year) ≡ true
-  ends-placed (no-plan e) q = absurd (true≢false (sym q))
-  ends-placed (at-rest e g) q = settled-placed (suc n) q
+  ends-placed (finds-no-plan e) q = absurd (true≢false (sym q))
+  ends-placed (comes-to-rest e g) q = settled-placed (suc n) q
 
   -- a year at rest in which every course has one term: that placing is a plan
   ends-plan : (p : Placing) {r : Filtered} → Ends y n z r → isSettled (r .answer) ≡ true → PlacedBy (r .year) p → Plan (r .year) p
-  ends-plan p (no-plan e) q h = absurd (true≢false (sym q))
-  ends-plan p (at-rest e g) q h = rest-plan z p sound-last h e g
+  ends-plan p (finds-no-plan e) q h = absurd (true≢false (sym q))
+  ends-plan p (comes-to-rest e g) q h = rest-plan z p sound-last h e g
 
 -- settled: the placing that the filtered year leaves is a plan, and every plan is that placing
 pub record OnePlan (y : Year) (p : Placing) : Type 0 where
@@ -95,7 +94,7 @@ placed-only z p q h l i m = eqb-true (q i) (p i) (sym (has-power (p i) (q i)) �
 
 pub settled-one : (y : Year) → Sound y → isSettled (filterOf y .answer) ≡ true → OnePlan y (thePlacing (filterOf y .year))
 settled-one y s e =
-    let f = filtering y s in
+    let f = filter-runs y s in
     let k = filter-kept y in
     let z = filterOf y .year in
     let h = placed-by z (ends-placed s (f .altering) (f .ends) e) in
@@ -107,7 +106,7 @@ settled-one y s e =
 -- where every course had one term before
 pub settled-exactly : (y : Year) (p : Placing) → Sound y → PlacedBy y p → (isSettled (filterOf y .answer) ≡ true) ↔ Plan y p
 settled-exactly y p s h =
-    let f = filtering y s in
+    let f = filter-runs y s in
     let k = filter-kept y in
     let there = placed-stays y p (filterOf y .year) (filter-narrower y s) h in (
       λ e. k .plans p .0 (ends-plan s (f .altering) p (f .ends) e there),

@@ -1,0 +1,23 @@
+-- All promises in one record. It is proved in proofs/All.antt.
+use Rattle.promises.specs.Demands.{Demand1, Demand2, Demand3}
+use Rattle.promises.specs.Table.{TableHolds}
+use Rattle.promises.specs.Unique.{OneResult}
+use Rattle.promises.specs.Narrowings.{EachNarrowing}
+use Rattle.promises.specs.Rounds.{FilteringNarrows}
+use Rattle.promises.specs.OnePlacing.{OnePlacing}
+use Rattle.promises.specs.ImbalancePlan.{ImbalanceGiven}
+use Rattle.promises.specs.SpareRoom.{SpareRoom}
+use Rattle.promises.specs.Boundary.{BufferLeft}
+
+pub record Promises : Type 0 where
+  pub demand-1 : Demand1
+  pub demand-2 : Demand2
+  pub demand-3 : Demand3
+  pub table-holds : TableHolds
+  pub one-result : OneResult
+  pub each-narrowing : EachNarrowing
+  pub filtering-narrows : FilteringNarrows
+  pub one-placing : OnePlacing
+  pub imbalance-given : ImbalanceGiven
+  pub spare-room : SpareRoom
+  pub buffer-left : BufferLeft
