@@ -1,4 +1,4 @@
--- Spares against the list of a course without the walk's own term, and how they are set up.
+-- Spares in arrays of sixteen: how they stand against the list of a course without the walk's own term, and how they are set up.
 use Prim.Native.Nat.{ℕ, _+_, _-_, _/_, _%_, _^_, _<_}
 use mathlib.Core.Bool.{Bool, true, false, _&&_}
 use mathlib.Core.List.{List}
@@ -45,9 +45,8 @@ module _ (s : List ℕ) (c : Course) (j : ℕ) (e : lists c j ≡ true) where
   unfolding charged
   charged-is = ap (tab 16) (fun-ext (λ k. ap (λ b. getD s k 0 - pick b 1) (has-struck (c .list) j k e)))
 
--- ---- set up
+-- ---- an array of sixteen, filled entry by entry
 
--- an array of sixteen zeros that is filled entry by entry
 abbrev pub zeros : List ℕ
 zeros = replicate 16 0
 
@@ -61,12 +60,14 @@ module _ (f : ℕ → ℕ) (s : List ℕ) (k : ℕ) (e : s ≡ fill f zeros k) w
   pub filling-ends : k ≡ 16 → s ≡ tab 16 f
   filling-ends is = e ∙ ap (fill f zeros) is ∙ fill-all f zeros 0 16 (length-replicate {A = ℕ} 16 0)
 
+-- ---- spares set up
+
 -- from the tallies of the sums and the low counts of the bounds
 pub spares-from : (t : List Term) (u : List Sums) → tab 16 (spareFrom (talliesOf u) (tab 16 (leastIn t))) ≡ tab 16 (spareIn t u)
 spares-from t u =
     tab-cong 16 _ (spareIn t u) (λ k h. rw (getD-tab 16 (freeIn u) 0 k h, getD-tab 16 (placedIn u) 0 k h, getD-tab 16 (leastIn t) 0 k h))
 
--- of a year
+-- those of a year
 pub spares-are : (y : Year) (u : List Sums) → u ≡ tab 16 (sumsAt y) → tab 16 (spareIn (y .term) u) ≡ spares y
 unfolding spares sumsAt fixedCount openCount
 spares-are y u e = tab-cong 16 (spareIn (y .term) u) (spare y) (λ k h. ap (λ (z : Sums). z .free .0 - (lowCount y k - z .placed .0)) (sums-read y u e k h))
