@@ -1,17 +1,17 @@
--- Spares against the list of a course without the walk's own term, and how they are set up and kept up to date.
-use Prim.Native.Nat.{ℕ, _-_, _/_, _%_, _^_, _<_}
+-- Spares in arrays of sixteen: how they stand against the list of a course without the walk's own term, and how they are set up.
+use Prim.Native.Nat.{ℕ, _+_, _-_, _/_, _%_, _^_, _<_}
 use mathlib.Core.Bool.{Bool, true, false, _&&_}
 use mathlib.Core.List.{List}
 use mathlib.Core.Path.{_≡_, refl, sym, ap, ap₂, fun-ext, _∙_}
 use native.Mathlib.Omega.{arith}
 use lib.Dec.{eqb}
-use lib.ListN.{length, getD, set}
+use lib.ListN.{length, replicate, getD, set, length-replicate}
 use lib.Seq.{getD-set-same, getD-set-other}
 use borrow.Author.Tests.{eqb-true, eqb-false}
 use Rattle.theory.specs.Sum.{pick}
 use Rattle.theory.specs.Tests.{any}
 use Rattle.theory.specs.Tab.{tab}
-use Rattle.theory.proofs.TabLaws.{tab-cong, set-tab}
+use Rattle.theory.proofs.TabLaws.{fill, getD-tab, fill-more, length-fill, fill-all, tab-cong, set-tab}
 use Rattle.theory.proofs.BitLaws.{has-struck}
 use Rattle.year.specs.Year.{zeroTerm, lists, lowCount}
 use Rattle.year.specs.Sums.{sumsAt, fixedCount, openCount}
@@ -20,9 +20,9 @@ use Rattle.year.specs.declared.Sums.{Sums}
 use Rattle.year.specs.declared.Term.{Term}
 use Rattle.year.specs.declared.Year.{Year}
 use Rattle.year.proofs.SumLaws.{sums-read}
-use Rattle.totals.specs.Parts.{sumsIn}
+use Rattle.totals.specs.Parts.{leastIn}
 use Rattle.rules.specs.Spares.{spare, spares, blocked, charged}
-use Rattle.walks.specs.Sparing.{spareIn, stuck, leftAt}
+use Rattle.walks.specs.Sparing.{freeIn, placedIn, talliesOf, spareFrom, spareIn, stuck, chargedAt}
 
 -- a bit is what its test counts for
 bit-is : (b : ℕ) → b < 2 → b ≡ pick (eqb b 1) 1
@@ -32,8 +32,8 @@ bit-is b h = go (eqb b 1) refl
     go true e = eqb-true b 1 e
     go false e = omega (arith, eqb-false b 1 e)
 
-pub left-is : (s : List ℕ) (l k : ℕ) → getD s k 0 - l / 2 ^ k % 2 ≡ leftAt s l k
-left-is s l k = ap (λ x. getD s k 0 - x) (bit-is (l / 2 ^ k % 2) (omega arith))
+pub charged-entry : (s : List ℕ) (l k : ℕ) → getD s k 0 - l / 2 ^ k % 2 ≡ chargedAt s l k
+charged-entry s l k = ap (λ x. getD s k 0 - x) (bit-is (l / 2 ^ k % 2) (omega arith))
 
 -- the terms on the list without j are the other terms that it names
 module _ (s : List ℕ) (c : Course) (j : ℕ) (e : lists c j ≡ true) where
@@ -41,23 +41,41 @@ module _ (s : List ℕ) (c : Course) (j : ℕ) (e : lists c j ≡ true) where
   unfolding blocked
   blocked-is = ap (any 16) (fun-ext (λ k. ap (λ b. b && eqb (getD s k 0) 0) (has-struck (c .list) j k e)))
 
-  pub charged-is : tab 16 (leftAt s (c .list - 2 ^ j)) ≡ charged j s c
+  pub charged-is : tab 16 (chargedAt s (c .list - 2 ^ j)) ≡ charged j s c
   unfolding charged
   charged-is = ap (tab 16) (fun-ext (λ k. ap (λ b. getD s k 0 - pick b 1) (has-struck (c .list) j k e)))
 
--- ---- set up from the bounds and the sums of a year
+-- ---- an array of sixteen, filled entry by entry
 
+abbrev pub zeros : List ℕ
+zeros = replicate 16 0
+
+module _ (f : ℕ → ℕ) (s : List ℕ) (k : ℕ) (e : s ≡ fill f zeros k) where
+  pub filling-long : length s ≡ 16
+  filling-long = ap length e ∙ length-fill f zeros k ∙ length-replicate {A = ℕ} 16 0
+
+  pub filling-more : (x : ℕ) → x ≡ f k → set s k x ≡ fill f zeros (k + 1)
+  filling-more x q = ap₂ (λ r v. set r k v) e q ∙ sym (fill-more f zeros k)
+
+  pub filling-ends : k ≡ 16 → s ≡ tab 16 f
+  filling-ends is = e ∙ ap (fill f zeros) is ∙ fill-all f zeros 0 16 (length-replicate {A = ℕ} 16 0)
+
+-- ---- spares set up
+
+-- from the tallies of the sums and the low counts of the bounds
+pub spares-from : (t : List Term) (u : List Sums) → tab 16 (spareFrom (talliesOf u) (tab 16 (leastIn t))) ≡ tab 16 (spareIn t u)
+spares-from t u =
+    tab-cong 16 _ (spareIn t u) (λ k h. rw (getD-tab 16 (freeIn u) 0 k h, getD-tab 16 (placedIn u) 0 k h, getD-tab 16 (leastIn t) 0 k h))
+
+-- those of a year
 pub spares-are : (y : Year) (u : List Sums) → u ≡ tab 16 (sumsAt y) → tab 16 (spareIn (y .term) u) ≡ spares y
 unfolding spares sumsAt fixedCount openCount
 spares-are y u e = tab-cong 16 (spareIn (y .term) u) (spare y) (λ k h. ap (λ (z : Sums). z .free .0 - (lowCount y k - z .placed .0)) (sums-read y u e k h))
 
--- ---- kept up to date
+-- ---- the low counts after the bounds of term j were altered to v
 
--- the bounds of term j are stored, and its spare is set up anew
-pub spare-stored : (t : List Term) (u : List Sums) (s : List ℕ) (j x : ℕ) (v : Term) → j < length t → s ≡ tab 16 (spareIn t u)
-    → x ≡ sumsIn u j .free .0 - (v .least .0 - sumsIn u j .placed .0) → set s j x ≡ tab 16 (spareIn (set t j v) u)
-spare-stored t u s j x v h e q =
-    let own = q ∙ ap (λ (y : Term). sumsIn u j .free .0 - (y .least .0 - sumsIn u j .placed .0)) (sym (getD-set-same t j v zeroTerm h)) in
-    ap₂ (λ r y. set r j y) e own
-    ∙ set-tab 16 (spareIn t u) (spareIn (set t j v) u) 0 j
-    (λ k l ne. ap (λ (y : Term). sumsIn u k .free .0 - (y .least .0 - sumsIn u k .placed .0)) (sym (getD-set-other t j k v zeroTerm ne)))
+pub low-counts-set : (t : List Term) (s : List ℕ) (j : ℕ) (v : Term) → j < length t → s ≡ tab 16 (leastIn t) → set s j (v .least .0) ≡ tab 16 (leastIn (set t j v))
+low-counts-set t s j v h e =
+    let own : v .least .0 ≡ leastIn (set t j v) j = ap (λ (x : Term). x .least .0) (sym (getD-set-same t j v zeroTerm h)) in
+    ap₂ (λ r x. set r j x) e own
+    ∙ set-tab 16 (leastIn t) (leastIn (set t j v)) 0 j (λ k l ne. ap (λ (x : Term). x .least .0) (sym (getD-set-other t j k v zeroTerm ne)))

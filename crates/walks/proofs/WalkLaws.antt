@@ -1,13 +1,14 @@
--- The walk course by course: what is left to walk gives what the whole walk gives.
+-- The walk course by course: what is left to walk gives what the whole walk gives. What it begins with, and what its rule leaves.
 use Prim.Native.Nat.{ℕ, suc, _+_, _≤_, _<_}
 use mathlib.Core.Bool.{Bool, true, false, not, _&&_, _||_, true≢false}
 use mathlib.Core.List.{List, [], _∷_}
 use mathlib.Core.Path.{_≡_, refl, sym, ap, subst, _∙_}
 use native.Mathlib.Numerals.{add-one}
 use native.Mathlib.Omega.{arith}
+use native.Mathlib.Decide.{ℕ-discrete}
 use lib.Dec.{ltb}
-use lib.ListN.{length, getD, take, drop, length-take, drop-of-length-le}
-use lib.Seq.{drop-cons, getD-take}
+use lib.ListN.{length, getD, set, take, drop, length-take, drop-of-length-le}
+use lib.Seq.{drop-cons, getD-take, getD-set-same, getD-set-other}
 use borrow.Author.Tests.{ltb-true, ltb-false, not-true}
 use Rattle.theory.specs.Sum.{pick, sum}
 use Rattle.theory.proofs.SumLaws.{sum-term-le}
@@ -17,14 +18,20 @@ use Rattle.theory.specs.Order.{keep}
 use Rattle.theory.specs.Walk.{Table, Reached, walk}
 use Rattle.rules.specs.Spares.{blocked, charged, stops}
 use Rattle.rules.specs.declared.Until.{Until}
+use Rattle.rules.proofs.Steps.{credits-tighter, counts-tighter}
+use Rattle.year.specs.Year.{zeroTerm}
+use Rattle.year.specs.Sound.{TermSound}
 use Rattle.year.specs.Sums.{fixedWeight, fixedOne, openOne, sumsTo}
-use Rattle.totals.specs.Parts.{bare, coursesFrom}
+use Rattle.totals.specs.Parts.{bare, coursesFrom, termIn}
 use Rattle.year.specs.declared.Course.{Course}
 use Rattle.year.specs.declared.Sums.{Sums}
+use Rattle.year.specs.declared.Term.{Term}
 use Rattle.year.proofs.SumLaws.{weights-to, possible-to, counts-to}
 use Rattle.totals.proofs.PartLaws.{course-in}
-use Rattle.walks.specs.Walking.{walkAs, stepped, courseIn, weightIn, openIn, tableIn, walkOver, reached}
+use Rattle.walks.specs.Walking.{walkAs, stepped, courseIn, weightIn, openIn, tableIn, walkOver, reached, endedOf}
 use Rattle.walks.specs.declared.Walk.{Walk}
+use Rattle.walks.specs.declared.WalkRule.{WalkRule}
+use Rattle.walks.specs.declared.WalkRule.the-variants.{LeastCount, MostCount, LeastLoad, MostLoad}
 
 -- ---- one course of the walk
 
@@ -42,8 +49,8 @@ module _ {S : Type 0} (T : Table S) (w : ℕ → ℕ) (stop : ℕ → ℕ → �
   walk-take e f = rw (e, f, walk)
 
 -- the step by what its three tests say: open, stopped, blocked; s and x are the spares and the credits after the course is taken
-abbrev next : Walk → List ℕ → ℕ → Bool → Bool → Bool → Walk
-next w s x a b d = choose a (choose (b || d) (walkAs (w .spare) (w .credits) (w .count) b) (walkAs s x (w .count + 1) false)) w
+abbrev byTests : Walk → List ℕ → ℕ → Bool → Bool → Bool → Walk
+byTests w s x a b d = choose a (choose (b || d) (walkAs (w .spare) (w .credits) (w .count) b) (walkAs s x (w .count + 1) false)) w
 
 module _ (cs : List Course) (j : ℕ) (u : Until) where
   -- what a walk that is to go over the courses of o, or has stopped, gives
@@ -54,12 +61,12 @@ module _ (cs : List Course) (j : ℕ) (u : Until) where
   live-left o w e = rw e
 
   -- one course: the step leaves what the walk from that course on gives
-  pub turn : (g : ℕ) (o : List ℕ) (w : Walk) → w .done ≡ false → left o (stepped w (courseIn cs g) j u) ≡ walkOver cs j u (g ∷ o) w
+  pub course-turn : (g : ℕ) (o : List ℕ) (w : Walk) → w .done ≡ false → left o (stepped w (courseIn cs g) j u) ≡ walkOver cs j u (g ∷ o) w
   unfolding stepped keep
-  turn g o w live = go (openIn cs j g) (stops u (w .credits) (w .count) (weightIn cs g)) (blocked j (w .spare) (courseIn cs g)) refl refl
+  course-turn g o w live = go (openIn cs j g) (stops u (w .credits) (w .count) (weightIn cs g)) (blocked j (w .spare) (courseIn cs g)) refl refl
     where
       go : (a b d : Bool) → stops u (w .credits) (w .count) (weightIn cs g) ≡ b → blocked j (w .spare) (courseIn cs g) ≡ d
-          → left o (next w (charged j (w .spare) (courseIn cs g)) (w .credits + weightIn cs g) a b d)
+          → left o (byTests w (charged j (w .spare) (courseIn cs g)) (w .credits + weightIn cs g) a b d)
           ≡ walk (tableIn cs j) (weightIn cs) (stops u) (choose a (g ∷ keep (openIn cs j) o) (keep (openIn cs j) o)) (w .spare) (w .credits) (w .count)
       go false b d p q = live-left o w live
       go true true d p q = sym (walk-stop (tableIn cs j) (weightIn cs) (stops u) g (keep (openIn cs j) o) (w .spare) (w .credits) (w .count) p)
@@ -71,8 +78,8 @@ module _ (cs : List Course) (j : ℕ) (u : Until) where
 -- ---- over an order
 
 -- the loop goes on
-pub goes-on : (k n : ℕ) (done : Bool) → ltb k n && not done ≡ true → (k < n) × (done ≡ false)
-goes-on k n done e = let p = and-true (ltb k n) (not done) e in (ltb-true k n (p .0), not-true done (p .1))
+pub walk-goes-on : (k n : ℕ) (done : Bool) → ltb k n && not done ≡ true → (k < n) × (done ≡ false)
+walk-goes-on k n done e = let p = and-true (ltb k n) (not done) e in (ltb-true k n (p .0), not-true done (p .1))
 
 module _ (cs : List Course) (j : ℕ) (u : Until) where
   -- one turn of the loop at k
@@ -82,14 +89,14 @@ module _ (cs : List Course) (j : ℕ) (u : Until) where
       let long : k < length (take n o) = simp length-take (omega arith) in
       let cons : drop k (take n o) ≡ getD o k 0 ∷ drop (k + 1) (take n o) = rw (drop-cons (take n o) k 0 long, getD-take n o k 0 l, add-one) refl in
       ap (left cs j u (drop (k + 1) (take n o))) e
-      ∙ turn cs j u (getD o k 0) (drop (k + 1) (take n o)) w live
+      ∙ course-turn cs j u (getD o k 0) (drop (k + 1) (take n o)) w live
       ∙ ap (λ L. walkOver cs j u L w) (sym cons)
       ∙ sym (live-left cs j u (drop k (take n o)) w live)
 
   -- where the loop ends nothing is left to walk
-  pub ended-at : (o : List ℕ) (n k : ℕ) (w : Walk) → ltb k n && not (w .done) ≡ false → left cs j u (drop k (take n o)) w ≡ reached w
+  pub none-left : (o : List ℕ) (n k : ℕ) (w : Walk) → ltb k n && not (w .done) ≡ false → left cs j u (drop k (take n o)) w ≡ reached w
   unfolding keep walk
-  ended-at o n k w e = go (ltb k n) (w .done) refl refl e
+  none-left o n k w e = go (ltb k n) (w .done) refl refl e
     where
       go : (a d : Bool) → ltb k n ≡ a → w .done ≡ d → a && not d ≡ false → left cs j u (drop k (take n o)) w ≡ reached w
       go a true p q r = rw q
@@ -135,3 +142,19 @@ module _ (w l : List ℕ) (j n : ℕ) (s : Sums) (e : s ≡ sumsTo (bare w l) j 
       let none = keep-none (openIn (coursesFrom w l) j) (take n o)
       (λ k h. let q = simp length-take at h in let b : k < n = omega (arith, q) in rw (getD-take n o k 0 b) (none-open z (getD o k 0) (within k b))) in
       rw none refl
+
+-- ---- what a rule leaves at a term is within the sizes
+
+pub ended-sound : (r : WalkRule) (t : Term) (w : Reached) → TermSound t → TermSound (endedOf r t w .term)
+ended-sound LeastCount t w s = counts-tighter 6 _ t (w .count) (t .most .0) s .sound
+ended-sound MostCount t w s = counts-tighter 7 _ t (t .least .0) (w .count) s .sound
+ended-sound LeastLoad t w s = credits-tighter 8 _ t (w .credits) (t .high .0) s .sound
+ended-sound MostLoad t w s = credits-tighter 9 _ t (t .low .0) (w .credits) s .sound
+
+-- and all terms are, when it is stored
+pub stored-sound : (t : List Term) (j : ℕ) (v : Term) → j < length t → TermSound v → ((k : ℕ) → k < 16 → TermSound (termIn t k)) → (k : ℕ) → k < 16 → TermSound (termIn (set t j v) k)
+stored-sound t j v l new old k h = go (ℕ-discrete k j)
+  where
+    go : Dec (k ≡ j) → TermSound (termIn (set t j v) k)
+    go (yes e) = rw (e, getD-set-same t j v zeroTerm l) new
+    go (no ne) = rw (getD-set-other t j k v zeroTerm ne) (old k h)

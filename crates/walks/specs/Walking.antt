@@ -2,7 +2,7 @@
 use Prim.Native.Nat.{ℕ, _+_}
 use mathlib.Core.Bool.{Bool, false, _||_}
 use mathlib.Core.List.{List}
-use lib.Dec.{eqb, ltb}
+use lib.Dec.{ltb}
 use lib.ListN.{getD, take}
 use Rattle.theory.specs.Choice.{choose}
 use Rattle.theory.specs.Tab.{tab}
@@ -21,6 +21,8 @@ use Rattle.rules.specs.declared.Until.{Until}
 use Rattle.rules.specs.declared.Until.the-variants as until
 use Rattle.walks.specs.Sparing.{spareIn}
 use Rattle.walks.specs.declared.Walk.{Walk}
+use Rattle.walks.specs.declared.WalkRule.{WalkRule}
+use Rattle.walks.specs.declared.WalkRule.the-variants.{LeastCount, MostCount, LeastLoad, MostLoad}
 
 -- ---- one course
 
@@ -62,21 +64,19 @@ reached w = record { credits = w .credits; count = w .count }
 abbrev pub begunOf : List ℕ → Sums → Walk
 begunOf s u = walkAs s (u .fixed .0) (u .placed .0) false
 
-abbrev pub untilOf : ℕ → Term → Until
-untilOf rule t =
-    choose (eqb rule 6) (until.Credits (t .low .0))
-    (choose (eqb rule 7) (until.Past (t .high .0))
-    (choose (eqb rule 8) (until.Count (t .least .0))
-    (until.Count (t .most .0))))
+abbrev pub untilOf : WalkRule → Term → Until
+untilOf LeastCount t = until.Credits (t .low .0)
+untilOf MostCount t = until.Past (t .high .0)
+untilOf LeastLoad t = until.Count (t .least .0)
+untilOf MostLoad t = until.Count (t .most .0)
 
-abbrev pub endedOf : ℕ → Term → Reached → Outcome
-endedOf rule t w =
-    choose (eqb rule 6) (outcome 6 (ltb (w .credits) (t .low .0)) t (countsWithin t (w .count) (t .most .0)))
-    (choose (eqb rule 7) (outcome 7 false t (countsWithin t (t .least .0) (w .count)))
-    (choose (eqb rule 8) (outcome 8 (ltb (w .count) (t .least .0)) t (creditsWithin t (w .credits) (t .high .0)))
-    (outcome 9 false t (creditsWithin t (t .low .0) (w .credits)))))
+abbrev pub endedOf : WalkRule → Term → Reached → Outcome
+endedOf LeastCount t w = outcome 6 (ltb (w .credits) (t .low .0)) t (countsWithin t (w .count) (t .most .0))
+endedOf MostCount t w = outcome 7 false t (countsWithin t (t .least .0) (w .count))
+endedOf LeastLoad t w = outcome 8 (ltb (w .count) (t .least .0)) t (creditsWithin t (w .credits) (t .high .0))
+endedOf MostLoad t w = outcome 9 false t (creditsWithin t (t .low .0) (w .credits))
 
 -- at term j of an array: the walk over the first n courses of an order, with spares set up afresh
-abbrev pub walkedAt : ℕ → List Sums → List Course → List ℕ → ℕ → List Term → ℕ → Outcome
+abbrev pub walkedAt : WalkRule → List Sums → List Course → List ℕ → ℕ → List Term → ℕ → Outcome
 walkedAt rule u cs o n t j =
     endedOf rule (termIn t j) (walkOver cs j (untilOf rule (termIn t j)) (take n o) (begunOf (tab 16 (spareIn t u)) (sumsIn u j)))

@@ -1,29 +1,52 @@
-// What each other term can still spare, in an array of sixteen: set up, asked and charged.
+// What each other term can still spare, in an array of sixteen: set up, asked and charged. In bytes, so that all sixteen go through a step at once.
+use crate::Tallies;
 use year::Sums;
 use year::Term;
-use year::tighter;
 ghost use mathlib.Core.Path.{_≡_};
 ghost use Prim.Native.Nat.{ℕ, _-_, _≤_, _<_};
 ghost use Rattle.theory.specs.Tests.{any};
 ghost use Rattle.theory.specs.Tab.{tab};
-ghost use Rattle.totals.specs.Parts.{sumsIn};
-ghost use Rattle.walks.specs.Sparing.{spareIn, stuck, leftAt};
+ghost use Rattle.year.specs.Sound.{TermSound};
+ghost use Rattle.totals.specs.Parts.{termIn, leastIn, sumsIn};
+ghost use Rattle.walks.specs.Sparing.{talliesOf, spareFrom, stuck, chargedAt};
 
-// The open courses of a term less those that its low count still needs.
-pub fn spare(t: Term, u: Sums) -> u8
-    requires { ⌜ u .free .0 ≤ 64 ⌝ }
-    ensures { λ r. ⌜ r ≡ u .free .0 - (t .least .0 - u .placed .0) ⌝ }
+pub fn tallies_of(sums: [Sums; 16]) -> Tallies
+    requires { ⌜ ((k : ℕ) → k < 16 → (sumsIn sums k .placed .0 ≤ 64) × (sumsIn sums k .free .0 ≤ 64)) ⌝ }
+    ensures { λ r. ⌜ r ≡ talliesOf sums ⌝ }
 {
-    tighter::less(u.free.0, tighter::less(t.least.0, u.placed.0)) as u8
+    let mut f = [0u8; 16];
+    let mut p = [0u8; 16];
+    for k in 0..16 {
+        f[k] = sums[k].free.0 as u8;
+        p[k] = sums[k].placed.0 as u8;
+    }
+    Tallies { free: f, placed: p }
 }
 
-pub fn spares(term: [Term; 16], sums: [Sums; 16]) -> [u8; 16]
-    requires { ⌜ ((k : ℕ) → k < 16 → sumsIn sums k .free .0 ≤ 64) ⌝ }
-    ensures { λ r. ⌜ r ≡ tab 16 (spareIn term sums) ⌝ }
+pub fn low_counts(term: [Term; 16]) -> [u8; 16]
+    requires { ⌜ ((k : ℕ) → k < 16 → TermSound (termIn term k)) ⌝ }
+    ensures { λ r. ⌜ r ≡ tab 16 (leastIn term) ⌝ }
 {
     let mut s = [0u8; 16];
     for k in 0..16 {
-        s[k] = spare(term[k], sums[k]);
+        s[k] = term[k].least.0 as u8;
+    }
+    s
+}
+
+fn less(a: u8, b: u8) -> u8
+    ensures { λ r. ⌜ r ≡ a - b ⌝ }
+{
+    if b < a { a - b } else { 0 }
+}
+
+// The open courses of each term less those that its low count still needs.
+pub fn spares(tallies: Tallies, least: [u8; 16]) -> [u8; 16]
+    ensures { λ r. ⌜ r ≡ tab 16 (spareFrom tallies least) ⌝ }
+{
+    let mut s = [0u8; 16];
+    for k in 0..16 {
+        s[k] = less(tallies.free[k], less(least[k], tallies.placed[k]));
     }
     s
 }
@@ -39,15 +62,9 @@ pub fn blocked(spare: [u8; 16], list: u16) -> bool
     found
 }
 
-fn less(a: u8, b: u8) -> u8
-    ensures { λ r. ⌜ r ≡ a - b ⌝ }
-{
-    if b < a { a - b } else { 0 }
-}
-
 // One is taken from the spare of each term on the list.
 pub fn charged(spare: [u8; 16], list: u16) -> [u8; 16]
-    ensures { λ r. ⌜ r ≡ tab 16 (leftAt spare list) ⌝ }
+    ensures { λ r. ⌜ r ≡ tab 16 (chargedAt spare list) ⌝ }
 {
     let mut s = [0u8; 16];
     for k in 0..16 {

@@ -1,5 +1,7 @@
 // Rules 6 to 9: one walk over the open courses of a term, with the number of courses that each other term can still spare.
+use crate::Tallies;
 use crate::Walk;
+use crate::WalkRule;
 use crate::spares;
 use frame::Bounds;
 use rules::Outcome;
@@ -15,9 +17,11 @@ ghost use mathlib.Core.Bool.{false};
 ghost use Prim.Native.Nat.{ℕ, _+_, _≤_, _<_};
 ghost use lib.ListN.{length, getD, take};
 ghost use Rattle.year.specs.Sums.{sumsTo};
-ghost use Rattle.totals.specs.Parts.{bare, coursesFrom, sumsIn};
+ghost use Rattle.year.specs.Sound.{TermSound};
+ghost use Rattle.totals.specs.Parts.{bare, coursesFrom, termIn, sumsIn};
 ghost use Rattle.rules.specs.Spares.{stops};
 ghost use Rattle.frame.specs.Bounds.{boundsOver};
+ghost use Rattle.walks.specs.Sparing.{talliesOf};
 ghost use Rattle.walks.specs.Walking.{stepped, walkOver, reached, begunOf, untilOf, endedOf, walkedAt};
 
 // The walk ends before a course of this weight.
@@ -98,50 +102,42 @@ fn begun(spare: [u8; 16], u: Sums) -> Walk
 }
 
 // Where the walk of a rule ends.
-fn until(rule: u32, t: Term) -> Until
+fn until(rule: WalkRule, t: Term) -> Until
     ensures { λ r. ⌜ r ≡ untilOf rule t ⌝ }
 {
-    if rule == 6 {
-        return Until::Credits(t.low.0);
+    match rule {
+        WalkRule::LeastCount => Until::Credits(t.low.0),
+        WalkRule::MostCount => Until::Past(t.high.0),
+        WalkRule::LeastLoad => Until::Count(t.least.0),
+        WalkRule::MostLoad => Until::Count(t.most.0),
     }
-    if rule == 7 {
-        return Until::Past(t.high.0);
-    }
-    if rule == 8 {
-        return Until::Count(t.least.0);
-    }
-    Until::Count(t.most.0)
 }
 
 // What a rule makes of the credits and the count that its walk reached.
-fn ended(rule: u32, t: Term, w: Walk) -> Outcome
+fn ended(rule: WalkRule, t: Term, w: Walk) -> Outcome
     ensures { λ r. ⌜ r ≡ endedOf rule t (reached w) ⌝ }
 {
-    if rule == 6 {
-        return frame::outcome(
-            6,
-            w.credits < t.low.0,
-            t,
-            tighter::counts_within(t, w.count, t.most.0),
-        );
+    match rule {
+        WalkRule::LeastCount => {
+            let short = w.credits < t.low.0;
+            frame::outcome(6, short, t, tighter::counts_within(t, w.count, t.most.0))
+        }
+        WalkRule::MostCount => {
+            frame::outcome(7, false, t, tighter::counts_within(t, t.least.0, w.count))
+        }
+        WalkRule::LeastLoad => {
+            let short = w.count < t.least.0;
+            frame::outcome(8, short, t, tighter::credits_within(t, w.credits, t.high.0))
+        }
+        WalkRule::MostLoad => {
+            frame::outcome(9, false, t, tighter::credits_within(t, t.low.0, w.credits))
+        }
     }
-    if rule == 7 {
-        return frame::outcome(7, false, t, tighter::counts_within(t, t.least.0, w.count));
-    }
-    if rule == 8 {
-        return frame::outcome(
-            8,
-            w.count < t.least.0,
-            t,
-            tighter::credits_within(t, w.credits, t.high.0),
-        );
-    }
-    frame::outcome(9, false, t, tighter::credits_within(t, t.low.0, w.credits))
 }
 
 // A rule at term t of number j with the sums u: its walk, which is over at once where no course is open, and what it makes of it.
 fn by_walk(
-    rule: u32,
+    rule: WalkRule,
     t: Term,
     u: Sums,
     spare: [u8; 16],
@@ -167,34 +163,37 @@ fn by_walk(
     )
 }
 
-// A rule over the first m terms. What the terms can spare is kept up to date from term to term.
+// A rule over the first m terms. Each term's walk has its spares set up afresh, from the low counts as they stand by then.
 pub fn walk_rule(
     b: Bounds,
-    rule: u32,
+    rule: WalkRule,
     m: usize,
     n: usize,
     sums: [Sums; 16],
+    tallies: Tallies,
     weight: &[u32],
     list: &[u16],
     order: &[u8],
 ) -> Bounds
     requires { ⌜ (m ≤ 16) × (length (b .term) ≡ 16) ⌝ }
+    requires { ⌜ ((k : ℕ) → k < 16 → TermSound (termIn (b .term) k)) ⌝ }
     requires { ⌜ (n ≤ 64) × (n ≤ length (now weight)) × (n ≤ length (now list)) × (n ≤ length (now order)) ⌝ }
     requires { ⌜ ((k : ℕ) → k < n → getD (now order) k 0 < n) × ((i : ℕ) → i < n → getD (now weight) i 0 ≤ 1000) ⌝ }
     requires { ⌜ ((k : ℕ) → k < 16 → sumsIn sums k ≡ sumsTo (bare (now weight) (now list)) k n) ⌝ }
+    requires { ⌜ tallies ≡ talliesOf sums ⌝ }
     ensures { λ r. ⌜ r ≡ boundsOver (walkedAt rule sums (coursesFrom (now (weight .entry)) (now (list .entry))) (now (order .entry)) n) b m ⌝ }
 {
     let mut z = b;
     let term = b.term;
-    let mut spare = spares::spares(term, sums);
+    let mut least = spares::low_counts(term);
     let mut j = 0;
     while (j < m) & (z.rule == 0) {
         let t = z.term[j];
-        let u = sums[j];
-        let o = by_walk(rule, t, u, spare, n, weight, list, order, j);
+        let spare = spares::spares(tallies, least);
+        let o = by_walk(rule, t, sums[j], spare, n, weight, list, order, j);
         let v = o.term;
         z.term[j] = v;
-        spare[j] = spares::spare(v, u);
+        least[j] = v.least.0 as u8;
         z.altered = z.altered | o.altered;
         z.rule = o.rule;
         j += 1;

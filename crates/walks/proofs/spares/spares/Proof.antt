@@ -1,46 +1,44 @@
--- The loop's invariant: the array is filled with the spares of the first k terms. Filled whole, it is the list of all.
-use Prim.Native.Nat.{ℕ, _≤_, _-_}
-use mathlib.Core.Path.{_≡_, sym, ap, ap₂, _∙_}
+-- The loop's invariant: the array is filled with the spares of the first k terms.
+use Prim.Native.Nat.{_≤_, _-_}
+use mathlib.Core.Path.{_≡_, ap, _∙_}
 use native.Mathlib.Omega.{arith}
-use lib.ListN.{length, replicate, set, length-replicate}
+use lib.ListN.{getD}
 use borrow.Author.Needs.{needs}
-use Rattle.theory.proofs.TabLaws.{fill, fill-more, fill-all, length-fill}
-use Rattle.walks.specs.Sparing.{spareIn}
+use Rattle.theory.proofs.TabLaws.{fill}
+use Rattle.walks.specs.Sparing.{spareFrom}
+use Rattle.walks.proofs.SparingLaws.{filling-long, filling-more, filling-ends}
 use Rattle.walks.proofs.spares.spares.Statement.{statement}
 use Rattle.walks.proofs.spares.spares.Tie as tie
 
 abbrev Inv-loop : tie.InvT-loop
-Inv-loop term sums s₀ k₀ s k = (k ≤ 16) × (s ≡ fill (spareIn term sums) s₀ k)
+Inv-loop tallies least s₀ k₀ s k = (k ≤ 16) × (s ≡ fill (spareFrom tallies least) s₀ k)
 
 abbrev μ-loop : tie.MeasureT-loop
-μ-loop term sums s₀ k₀ s k = 16 - k
+μ-loop tallies least s₀ k₀ s k = 16 - k
 
 loop-holds : tie.Need-loop-holds Inv-loop μ-loop
 unfolding fill
 loop-holds c = search needs
 
-mul-spare : tie.Need-mul-spare Inv-loop μ-loop
-mul-spare c = search needs
+element-copy-out-less : tie.Need-element-copy-out-less Inv-loop μ-loop
+element-copy-out-less c = search needs
 
-array-copy-out-spare : tie.Need-array-copy-out-spare Inv-loop μ-loop
-array-copy-out-spare c = search needs
+array-read-less : tie.Need-array-read-less Inv-loop μ-loop
+array-read-less c = search needs
 
-mul-spare-2 : tie.Need-mul-spare-2 Inv-loop μ-loop
-mul-spare-2 c = search needs
+element-copy-out-less-2 : tie.Need-element-copy-out-less-2 Inv-loop μ-loop
+element-copy-out-less-2 c = search needs
 
-array-copy-out-spare-2 : tie.Need-array-copy-out-spare-2 Inv-loop μ-loop
-array-copy-out-spare-2 c = search needs
+less-requires : tie.Need-less-requires Inv-loop μ-loop
+less-requires c κs = search needs
 
-spare-requires : tie.Need-spare-requires Inv-loop μ-loop
-spare-requires c κs =
-    let l = c .before .before .before in
-    l .before .pre (l .loop .k) (c .before .before .loop-test .taken)
+less-requires-2 : tie.Need-less-requires-2 Inv-loop μ-loop
+less-requires-2 c κs = search needs
 
 array-write-s : tie.Need-array-write-s Inv-loop μ-loop
 array-write-s c =
-    let l = c .before .before .before .before in
-    let b = l .before in
-    omega (arith, ap length (l .loop .inv .1), length-fill (spareIn (b .args .t1) (b .args .t2)) (replicate 16 0) (l .loop .k), length-replicate {A = ℕ} 16 0)
+    let l = c .before .before .before .before .before in
+    omega (arith, filling-long (spareFrom (l .before .args .t1) (l .before .args .t2)) (l .loop .s) (l .loop .k) (l .loop .inv .1))
 
 add-k : tie.Need-add-k Inv-loop μ-loop
 add-k c = search needs
@@ -50,17 +48,15 @@ loop-less c = search needs
 
 loop-again : tie.Need-loop-again Inv-loop μ-loop
 loop-again c =
-    let l = c .before .before .before .before in
-    let b = l .before in
-    let f = spareIn (b .args .t1) (b .args .t2) in
-    (search needs, ap₂ (λ r v. set r (l .loop .k) v) (l .loop .inv .1) (c .spare .ensures) ∙ sym (fill-more f (replicate 16 0) (l .loop .k)))
+    let l = c .before .before .before .before .before in
+    let a = l .before .args in
+    let is = c .less2 .ensures ∙ ap (λ x. getD (a .t1 .free) (l .loop .k) 0 - x) (c .before .less .ensures) in
+    (search needs, filling-more (spareFrom (a .t1) (a .t2)) (l .loop .s) (l .loop .k) (l .loop .inv .1) _ is)
 
 returns : tie.Need-returns Inv-loop μ-loop
 returns c =
     let l = c .before in
-    let f = spareIn (l .before .args .t1) (l .before .args .t2) in
-    let is : l .loop .k ≡ 16 = omega arith in
-    l .loop .inv .1 ∙ ap (fill f (replicate 16 0)) is ∙ fill-all f (replicate 16 0) 0 16 (length-replicate {A = ℕ} 16 0)
+    filling-ends (spareFrom (l .before .args .t1) (l .before .args .t2)) (l .loop .s) (l .loop .k) (l .loop .inv .1) (omega arith)
 
 pub spares-spec : {M : Type 1} → statement M
 spares-spec =
@@ -69,11 +65,11 @@ spares-spec =
     Inv-loop
     μ-loop
     loop-holds
-    mul-spare
-    array-copy-out-spare
-    mul-spare-2
-    array-copy-out-spare-2
-    spare-requires
+    element-copy-out-less
+    array-read-less
+    element-copy-out-less-2
+    less-requires
+    less-requires-2
     array-write-s
     add-k
     loop-less

@@ -1,127 +1,149 @@
--- The loop's invariant: the bounds are those after the first j terms, and what the terms can spare is what would be set up from them.
+-- The loop's invariant: the bounds are those that the first j terms leave, each within the sizes, and the low counts are theirs.
 use Prim.Native.Nat.{ℕ, _≤_, _<_, _-_}
 use mathlib.Core.Bool.{true}
 use mathlib.Core.List.{List}
-use mathlib.Core.Path.{_≡_, refl, ap, _∙_}
+use mathlib.Core.Path.{_≡_, refl, sym, ap, ap₂, subst, _∙_}
 use native.Mathlib.Omega.{arith}
 use lib.Dec.{eqb}
-use lib.ListN.{length, take, length-set}
+use lib.ListN.{length, take}
 use borrow.Author.Needs.{needs}
 use Rattle.theory.specs.Fold.{fold}
 use Rattle.theory.specs.Tab.{tab}
 use Rattle.theory.proofs.TabLaws.{length-tab}
-use Rattle.totals.specs.Parts.{coursesFrom, termIn, sumsIn}
+use Rattle.year.specs.Sound.{TermSound}
+use Rattle.totals.specs.Parts.{coursesFrom, termIn, leastIn, sumsIn}
+use Rattle.rules.specs.declared.Outcome.{Outcome}
 use Rattle.year.specs.declared.Sums.{Sums}
 use Rattle.year.specs.declared.Term.{Term}
-use Rattle.rules.specs.declared.Outcome.{Outcome}
-use Rattle.walks.specs.Sparing.{spareIn}
 use Rattle.frame.specs.Bounds.{boundsOver}
+use Rattle.frame.specs.declared.Bounds.{Bounds}
+use Rattle.frame.proofs.BoundsOver.{goes-on, over-long, term-turn, over-finish}
+use Rattle.walks.specs.Sparing.{spareFrom}
 use Rattle.walks.specs.Walking.{walkOver, begunOf, untilOf, endedOf, walkedAt}
-use Rattle.walks.proofs.SparingLaws.{spare-stored}
-use Rattle.frame.proofs.BoundsOver.{goes-on, term-turn, over-finish}
-use Rattle.walks.proofs.WalkLaws.{sums-small}
+use Rattle.walks.specs.declared.WalkRule.{WalkRule}
+use Rattle.walks.proofs.SparingLaws.{spares-from, low-counts-set}
+use Rattle.walks.proofs.WalkLaws.{ended-sound, stored-sound}
 use Rattle.walks.proofs.walking.walk_rule.Statement.{statement}
 use Rattle.walks.proofs.walking.walk_rule.Tie as tie
 
-abbrev atTerm : ℕ → List Sums → List ℕ → List ℕ → List ℕ → ℕ → List Term → ℕ → Outcome
+abbrev atTerm : WalkRule → List Sums → List ℕ → List ℕ → List ℕ → ℕ → List Term → ℕ → Outcome
 atTerm rule u w l o n = walkedAt rule u (coursesFrom w l) o n
 
 abbrev Inv-loop : tie.InvT-loop
-Inv-loop rule m n weight list order sums z₀ spare₀ j₀ z spare j =
-    (j ≤ m) × (length (z .term) ≡ 16) × (z ≡ boundsOver (atTerm rule sums weight list order n) z₀ j) × (spare ≡ tab 16 (spareIn (z .term) sums))
+Inv-loop rule m n tallies weight list order sums z₀ least₀ j₀ z least j =
+    (j ≤ m)
+    × (z ≡ boundsOver (atTerm rule sums weight list order n) z₀ j)
+    × (least ≡ tab 16 (leastIn (z .term)))
+    × ((k : ℕ) → k < 16 → TermSound (termIn (z .term) k))
 
 abbrev μ-loop : tie.MeasureT-loop
-μ-loop rule m n weight list order sums z₀ spare₀ j₀ z spare j = m - j
+μ-loop rule m n tallies weight list order sums z₀ least₀ j₀ z least j = m - j
 
-on : (c : tie.In-loop Inv-loop μ-loop) → let l = c .before in (l .loop .j < l .before .before .before .before .before .before .args .m) × (eqb (l .loop .z .rule) 0 ≡ true)
-on c =
-    let l = c .before in
-    goes-on (l .loop .j) (l .before .before .before .before .before .before .args .m) (l .loop .z .rule) (c .loop-test .taken)
+-- ---- a turn of the loop
+
+abbrev start : tie.At-loop Inv-loop μ-loop → tie.Start Inv-loop μ-loop
+start l = l .before .before .before .before .before .before
+
+long : (l : tie.At-loop Inv-loop μ-loop) → length (l .loop .z .term) ≡ 16
+long l = ap (λ (z : Bounds). length (z .term)) (l .loop .inv .1) ∙ over-long _ _ (l .loop .j) ∙ start l .pre .0 .1
+
+on : (c : tie.In-loop Inv-loop μ-loop) → (c .before .loop .j < start (c .before) .args .m) × (eqb (c .before .loop .z .rule) 0 ≡ true)
+on c = let l = c .before in goes-on (l .loop .j) (start l .args .m) (l .loop .z .rule) (c .loop-test .taken)
 
 few : (c : tie.In-loop Inv-loop μ-loop) → c .before .loop .j < 16
-few c = omega (arith, on c, c .before .before .before .before .before .before .before .pre .0)
+few c = omega (arith, on c, start (c .before) .pre .0)
 
-free-small : (b : tie.Start Inv-loop μ-loop) (k : ℕ) → k < 16 → sumsIn (b .args .t5) k .free .0 ≤ 64
-free-small b k h =
-    let a = b .args in
-    sums-small (a .weight .now) (a .list .now) k (a .n) (sumsIn (a .t5) k) (b .pre .1 .1 .1 k h) (b .pre .1 .0 .0) (b .pre .1 .1 .0 .1) .2
+within : (c : tie.In-loop Inv-loop μ-loop) → c .before .loop .j < length (c .before .loop .z .term)
+within c = omega (arith, few c, long (c .before))
 
-spares-requires : tie.Need-spares-requires Inv-loop μ-loop
-spares-requires c κs = free-small (c .before .before .before .before)
+-- the outcome is the definition's, with spares set up from the bounds at hand
+is-walked : (c : tie.After-by-walk Inv-loop μ-loop) → let l = c .before .before .before .before .before in let a = start l .args in c .by-walk .result ≡ atTerm (a .rule) (a .t5) (a .weight .now) (a .list .now) (a .order .now) (a .n) (l .loop .z .term) (l .loop .j)
+is-walked c =
+    let d = c .before .before in
+    let l = d .before .before .before in
+    let a = start l .args in
+    let t = l .loop .z .term in
+    let j = l .loop .j in
+    let fresh = d .spares .ensures ∙ ap₂ (λ x s. tab 16 (spareFrom x s)) (start l .pre .1 .1 .1 .1 .1) (l .loop .inv .2) ∙ spares-from t (a .t5) in
+    c .by-walk .ensures
+    ∙ ap (λ s. endedOf (a .rule) (termIn t j) (walkOver (coursesFrom (a .weight .now) (a .list .now)) j (untilOf (a .rule) (termIn t j)) (take (a .n) (a .order .now)) (begunOf s (sumsIn (a .t5) j)))) fresh
+
+-- the term is within the sizes before and after
+are-sound : (c : tie.After-by-walk Inv-loop μ-loop) → let l = c .before .before .before .before .before in TermSound (termIn (l .loop .z .term) (l .loop .j)) × TermSound (c .by-walk .result .term)
+are-sound c =
+    let i = c .before .before .before .before in
+    let l = i .before in
+    let old = l .loop .inv .3 (l .loop .j) (few i) in
+    (old, subst (λ (o : Outcome). TermSound (o .term)) (sym (is-walked c)) (ended-sound (start l .args .rule) (termIn (l .loop .z .term) (l .loop .j)) _ old))
+
+-- ---- the needs
+
+low-counts-requires : tie.Need-low-counts-requires Inv-loop μ-loop
+low-counts-requires c κs = search needs
 
 loop-holds : tie.Need-loop-holds Inv-loop μ-loop
 unfolding fold
-loop-holds c = (search needs, search needs, refl, c .spares .ensures)
+loop-holds c = (omega arith, refl, c .low-counts .ensures, c .before .before .before .before .before .pre .1 .0)
 
 mul-t : tie.Need-mul-t Inv-loop μ-loop
 mul-t c = omega (arith, few c)
 
 element-copy-out-t : tie.Need-element-copy-out-t Inv-loop μ-loop
-element-copy-out-t c = omega (arith, few c)
+element-copy-out-t c = few c
 
-mul-u : tie.Need-mul-u Inv-loop μ-loop
-mul-u c = omega (arith, few (c .before))
+spares-requires : tie.Need-spares-requires Inv-loop μ-loop
+spares-requires c κs = search needs
 
-array-copy-out-u : tie.Need-array-copy-out-u Inv-loop μ-loop
-array-copy-out-u c = omega (arith, few (c .before))
+mul-by-walk : tie.Need-mul-by-walk Inv-loop μ-loop
+mul-by-walk c = omega (arith, few (c .before .before))
+
+array-copy-out-by-walk : tie.Need-array-copy-out-by-walk Inv-loop μ-loop
+array-copy-out-by-walk c = omega (arith, few (c .before .before))
 
 by-walk-requires : tie.Need-by-walk-requires Inv-loop μ-loop
 by-walk-requires c κs =
-    let l = c .before .before .before in
-    let b = l .before .before .before .before .before .before in
-    let p = b .pre .1 .0 in
-    let h = few (c .before .before) in
-    ((p .0, p .1, p .2, p .3, h), (b .pre .1 .1 .0, b .pre .1 .1 .1 (l .loop .j) h))
+    let i = c .before .before .before in
+    let p = start (i .before) .pre .1 .1 in
+    ((p .0 .0, p .0 .1, p .0 .2, p .0 .3, few i), (p .1 .0, p .1 .1 .0 (i .before .loop .j) (few i)))
 
 mul-v : tie.Need-mul-v Inv-loop μ-loop
-mul-v c = omega (arith, few (c .before .before .before .before))
+mul-v c = omega (arith, few (c .before .before .before .before .before))
 
 element-set-from-v : tie.Need-element-set-from-v Inv-loop μ-loop
-element-set-from-v c = omega (arith, few (c .before .before .before .before))
+element-set-from-v c = few (c .before .before .before .before .before)
 
-spare-requires : tie.Need-spare-requires Inv-loop μ-loop
-spare-requires c κs =
-    let t = c .before .before .before .before in
-    let l = t .before in
-    free-small (l .before .before .before .before .before .before) (l .loop .j) (few t)
+cast-least : tie.Need-cast-least Inv-loop μ-loop
+cast-least c = omega (arith, are-sound (c .before .before))
 
-array-write-spare : tie.Need-array-write-spare Inv-loop μ-loop
-array-write-spare c =
-    let t = c .before .before .before .before .before in
-    let l = t .before in
-    let b = l .before .before .before .before .before .before in
-    omega (arith, few t, ap length (l .loop .inv .3), length-tab 16 (spareIn (l .loop .z .term) (b .args .t5)))
+array-write-least : tie.Need-array-write-least Inv-loop μ-loop
+array-write-least c =
+    let i = c .before .before .before .before .before .before in
+    let l = i .before in
+    omega (arith, few i, ap length (l .loop .inv .2), length-tab 16 (leastIn (l .loop .z .term)))
 
 add-j : tie.Need-add-j Inv-loop μ-loop
-add-j c = omega (arith, few (c .before .before .before .before .before .before))
+add-j c = omega (arith, few (c .before .before .before .before .before .before .before))
 
 loop-less : tie.Need-loop-less Inv-loop μ-loop
-loop-less c = omega (arith, on (c .before .before .before .before .before .before))
+loop-less c = omega (arith, on (c .before .before .before .before .before .before .before))
 
 loop-again : tie.Need-loop-again Inv-loop μ-loop
 loop-again c =
     let w = c .before .before .before in
-    let t = w .before .before .before in
-    let l = t .before in
-    let a = l .before .before .before .before .before .before .args in
+    let i = w .before .before .before .before in
+    let l = i .before in
     let z = l .loop .z in
-    let j = l .loop .j in
-    let o = w .by-walk .result in
-    let cs = coursesFrom (a .weight .now) (a .list .now) in
-    let is =
-    w .by-walk .ensures
-    ∙ ap (λ s. endedOf (a .rule) (termIn (z .term) j) (walkOver cs j (untilOf (a .rule) (termIn (z .term) j)) (take (a .n) (a .order .now)) (begunOf s (sumsIn (a .t5) j)))) (l .loop .inv .3) in (
-      omega (arith, on t),
-      length-set (z .term) j (o .term) ∙ l .loop .inv .1,
-      term-turn (atTerm (a .rule) (a .t5) (a .weight .now) (a .list .now) (a .order .now) (a .n)) (a .b) j z o (l .loop .inv .2) (on t .1) is,
-      spare-stored (z .term) (a .t5) (l .loop .spare) j (c .before .spare .result) (o .term) (omega (arith, few t)) (l .loop .inv .3) (c .before .spare .ensures),
+    let o = w .by-walk .result in (
+      omega (arith, on i),
+      term-turn _ _ (l .loop .j) z o (l .loop .inv .1) (on i .1) (is-walked w),
+      low-counts-set (z .term) (l .loop .least) (l .loop .j) (o .term) (within i) (l .loop .inv .2),
+      stored-sound (z .term) (l .loop .j) (o .term) (within i) (are-sound w .1) (l .loop .inv .3),
     )
 
 returns : tie.Need-returns Inv-loop μ-loop
 returns c =
     let l = c .before in
-    let a = l .before .before .before .before .before .before .args in
-    over-finish (atTerm (a .rule) (a .t5) (a .weight .now) (a .list .now) (a .order .now) (a .n)) (a .b) (l .loop .j) (a .m) (l .loop .z) (l .loop .inv .0) (l .loop .inv .2) (c .loop-test .left)
+    over-finish _ _ (l .loop .j) (start l .args .m) (l .loop .z) (l .loop .inv .0) (l .loop .inv .1) (c .loop-test .left)
 
 pub walk-rule-spec : {M : Type 1} → statement M
 walk-rule-spec =
@@ -129,17 +151,18 @@ walk-rule-spec =
     (tie.spec
     Inv-loop
     μ-loop
-    spares-requires
+    low-counts-requires
     loop-holds
     mul-t
     element-copy-out-t
-    mul-u
-    array-copy-out-u
+    spares-requires
+    mul-by-walk
+    array-copy-out-by-walk
     by-walk-requires
     mul-v
     element-set-from-v
-    spare-requires
-    array-write-spare
+    cast-least
+    array-write-least
     add-j
     loop-less
     loop-again

@@ -11,7 +11,7 @@ use Rattle.theory.specs.Tab.{tab}
 use Rattle.theory.proofs.BitLaws.{has-le}
 use Rattle.year.specs.Year.{lists, isFixed, isOpen}
 use Rattle.rules.specs.Spares.{blocked, charged, stops}
-use Rattle.walks.specs.Sparing.{stuck, leftAt}
+use Rattle.walks.specs.Sparing.{stuck, chargedAt}
 use Rattle.walks.specs.Walking.{walkAs, stepped}
 use Rattle.walks.proofs.SparingLaws.{blocked-is, charged-is}
 use Rattle.walks.proofs.walking.walk_step.Statement.{statement}
@@ -89,7 +89,7 @@ returns-3 c =
     let a = e .before .before .args in
     let rest =
     h .charged .ensures
-    ∙ ap (λ q. tab 16 (leftAt (a .w .spare) (a .c .list - q))) (p .power .ensures)
+    ∙ ap (λ q. tab 16 (chargedAt (a .w .spare) (a .c .list - q))) (p .power .ensures)
     ∙ charged-is (a .w .spare) (a .c) (a .j) (is-listed e) in (
       simp (is-open e, test-is b ∙ h .before .if2 .left) (ap (λ s. walkAs s (a .w .credits + a .c .weight .0) (a .w .count + 1) false) rest),
       search needs,

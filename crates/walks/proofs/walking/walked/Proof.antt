@@ -8,7 +8,7 @@ use borrow.Author.Needs.{needs}
 use Rattle.totals.specs.Parts.{coursesFrom}
 use Rattle.totals.proofs.PartLaws.{course-in}
 use Rattle.walks.specs.Walking.{walkOver, stepped}
-use Rattle.walks.proofs.WalkLaws.{left, live-left, goes-on, turn-at, ended-at}
+use Rattle.walks.proofs.WalkLaws.{left, live-left, walk-goes-on, turn-at, none-left}
 use Rattle.walks.proofs.walking.walked.Statement.{statement}
 use Rattle.walks.proofs.walking.walked.Tie as tie
 
@@ -25,7 +25,7 @@ abbrev μ-loop : tie.MeasureT-loop
 on : (c : tie.Then1 Inv-loop μ-loop) → let l = c .before .before in (l .loop .k < l .before .before .before .before .args .n) × (l .loop .z .done ≡ false)
 on c =
     let l = c .before .before in
-    goes-on (l .loop .k) (l .before .before .before .before .args .n) (l .loop .z .done) (c .if1 .taken)
+    walk-goes-on (l .loop .k) (l .before .before .before .before .args .n) (l .loop .z .done) (c .if1 .taken)
 
 -- the number of the course at hand is below n
 small : (c : tie.Then1 Inv-loop μ-loop) → let b = c .before .before .before .before .before .before in getD (b .args .order .now) (c .before .before .loop .k) 0 < b .args .n
@@ -80,7 +80,7 @@ returns : tie.Need-returns Inv-loop μ-loop
 returns c =
     let l = c .before .before in
     let a = l .before .before .before .before .args in
-    sym (ended-at (coursesFrom (a .weight .now) (a .list .now)) (a .j) (a .until) (a .order .now) (a .n) (l .loop .k) (l .loop .z) (c .if1 .left)) ∙ l .loop .inv .1
+    sym (none-left (coursesFrom (a .weight .now) (a .list .now)) (a .j) (a .until) (a .order .now) (a .n) (l .loop .k) (l .loop .z) (c .if1 .left)) ∙ l .loop .inv .1
 
 pub walked-spec : {M : Type 1} → statement M
 walked-spec =
