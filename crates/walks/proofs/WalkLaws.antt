@@ -17,7 +17,8 @@ use Rattle.theory.specs.Order.{keep}
 use Rattle.theory.specs.Walk.{Table, Reached, walk}
 use Rattle.rules.specs.Spares.{blocked, charged, stops}
 use Rattle.rules.specs.declared.Until.{Until}
-use Rattle.year.specs.Sums.{fixedWeight, fixedOne, openOne, sumsTo}
+use Rattle.year.specs.Sums.{fixedWeight, fixedOne, openOne}
+use Rattle.year.specs.SumsOf.{sumsTo}
 use Rattle.totals.specs.Parts.{bare, coursesFrom}
 use Rattle.year.specs.declared.Course.{Course}
 use Rattle.year.specs.declared.Sums.{Sums}

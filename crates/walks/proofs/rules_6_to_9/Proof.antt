@@ -3,7 +3,7 @@ use mathlib.Core.Path.{_≡_, sym, ap, subst, _∙_}
 use lib.ListN.{length}
 use borrow.Author.Needs.{needs}
 use Rattle.theory.specs.Tab.{tab}
-use Rattle.year.specs.Sums.{sumsAt}
+use Rattle.year.specs.SumsOf.{sumsAt}
 use Rattle.rules.specs.Step.{overTerms, Step}
 use Rattle.frame.specs.State.{stepIn}
 use Rattle.rules.specs.Spares.{down, up, rule6, rule7, rule8, rule9}
