@@ -1,4 +1,5 @@
-// The four narrowings of bounds: methods on the year by value, each with its answer beside the year. A refused one hands back the year it was given.
+// The four narrowings of bounds: methods on the year by value, each with its answer beside the year.
+// A refused one hands back the year it was given.
 use crate::Courses;
 use crate::Credits;
 use crate::Narrowed;

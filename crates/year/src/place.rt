@@ -1,4 +1,5 @@
-// Placing a course: a method on the year by value, with its answer beside the year. A refused one hands back the year it was given.
+// Placing a course: a method on the year by value, with its answer beside the year.
+// A refused one hands back the year it was given.
 use crate::Narrowed;
 use crate::Narrowing;
 use crate::Year;
