@@ -1,4 +1,5 @@
--- The calls on byte lists: what each answers and what it leaves in the lent buffer. Refusals come in rising number: reading's, then 9, then the call's own.
+-- The calls on byte lists: what each answers and what it leaves in the lent buffer.
+-- Refusals come in rising number: reading's, then 9, then the call's own.
 use Prim.Native.Nat.{ℕ}
 use mathlib.Core.List.{List}
 use lib.Dec.{eqb, ltb}
@@ -55,7 +56,8 @@ filterCode s room =
 unfoldable pub filterOut : List ℕ → List ℕ → List ℕ
 filterOut s b =
     leftWhenRead (readList s .answer)
-    (choose (ltb (length b) (length s)) b (filterLeft (filterOf (readList s .year) .answer) (filterOf (readList s .year) .year) b))
+    (choose (ltb (length b) (length s)) b
+    (filterLeft (filterOf (readList s .year) .answer) (filterOf (readList s .year) .year) b))
     b
 
 -- ---- narrow
@@ -85,5 +87,6 @@ narrowCode s kind a b room =
 unfoldable pub narrowOut : List ℕ → ℕ → ℕ → ℕ → List ℕ → List ℕ
 narrowOut s kind a b out =
     leftWhenRead (readList s .answer)
-    (choose (ltb (length out) (length s)) out (narrowLeft (narrowOf (readList s .year) kind a b .answer) (narrowOf (readList s .year) kind a b .year) out))
+    (choose (ltb (length out) (length s)) out
+    (narrowLeft (narrowOf (readList s .year) kind a b .answer) (narrowOf (readList s .year) kind a b .year) out))
     out

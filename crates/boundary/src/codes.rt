@@ -8,7 +8,7 @@ use year::Year;
 ghost use mathlib.Core.Path.{_≡_};
 ghost use Prim.Native.Nat.{_<_};
 ghost use Rattle.year.specs.Imbalance.{imbalanceOf};
-ghost use Rattle.records.specs.Numbers.{faultNumber, readingPlace};
+ghost use Rattle.records.specs.Numbers.{readingPlace};
 ghost use Rattle.records.specs.declared.Reading.the-variants as reading;
 ghost use Rattle.boundary.specs.Packed.{packed, readingCode, narrowingCode, measuredCode, answerCode};
 
@@ -23,26 +23,12 @@ fn pack(number: u64, detail: u32, value: u64) -> u64
     number + detail as u64 * 256 + value * 65536
 }
 
-fn fault(f: Fault) -> u64
-    ensures { λ r. ⌜ (r ≡ faultNumber f) × (r < 256) ⌝ }
-{
-    match f {
-        Fault::Length => 1,
-        Fault::Letter => 2,
-        Fault::Number => 3,
-        Fault::Size => 4,
-        Fault::Order => 5,
-        Fault::List => 6,
-        Fault::Padding => 7,
-    }
-}
-
 // A refused list.
 pub fn refused(f: Fault, k: usize) -> u64
     requires { ⌜ k < 4294967296 ⌝ }
     ensures { λ r. ⌜ r ≡ readingCode (reading.Refused f k) ⌝ }
 {
-    pack(fault(f), 0, k as u64)
+    pack(records::fault_number(f) as u64, 0, k as u64)
 }
 
 pub fn reading(a: Reading) -> u64

@@ -12,7 +12,8 @@ use Rattle.theory.proofs.SumLaws.{sum-more, sum-le-mul, sum-change, sum-term-le
 use Rattle.theory.specs.Others.{others}
 use Rattle.theory.proofs.LoadLaws.{others-split}
 use Rattle.year.specs.Year.{termAt, zeroTerm}
-use Rattle.year.specs.Sums.{allCredits, fixedCredits, openCredits, fixedCount, openCount, sumsAt}
+use Rattle.year.specs.Sums.{allCredits, fixedCredits, openCredits, fixedCount, openCount}
+use Rattle.year.specs.SumsOf.{sumsAt}
 use Rattle.year.specs.Sound.{Sound, TermSound}
 use Rattle.year.specs.Tight.{creditsWithin, countsWithin}
 use Rattle.year.specs.declared.Term.{Term}

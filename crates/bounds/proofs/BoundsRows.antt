@@ -4,7 +4,8 @@ use mathlib.Core.List.{List}
 use mathlib.Core.Path.{_≡_, sym, ap, _∙_}
 use Rattle.theory.specs.Tab.{tab}
 use Rattle.year.specs.Year.{termAt}
-use Rattle.year.specs.Sums.{allCredits, sumsAt}
+use Rattle.year.specs.Sums.{allCredits}
+use Rattle.year.specs.SumsOf.{sumsAt}
 use Rattle.year.specs.declared.Sums.{Sums}
 use Rattle.year.specs.declared.Year.{Year}
 use Rattle.year.proofs.SumLaws.{sums-read}

@@ -1,6 +1,5 @@
 // What the listing program prints of a list of records: the answer of its filtering and the filtered year, or why there is none.
 use filter::Answer;
-use records::Fault;
 use records::Reading;
 use year::Course;
 use year::Term;
@@ -50,18 +49,6 @@ fn show_pair(a: u32, b: u32) {
     text::show(text::numbered(text::numbered(text::empty(), a), b));
 }
 
-fn fault_number(f: Fault) -> u32 {
-    match f {
-        Fault::Length => 1,
-        Fault::Letter => 2,
-        Fault::Number => 3,
-        Fault::Size => 4,
-        Fault::Order => 5,
-        Fault::List => 6,
-        Fault::Padding => 7,
-    }
-}
-
 // What stands behind SETTLED or OPEN: the rounds, and the year.
 fn show_year(rounds: u32, y: Year) {
     text::show(text::numbered(text::empty(), rounds));
@@ -102,6 +89,6 @@ pub fn show(s: &[u8]) {
     let a = r.answer;
     match a {
         Reading::Done => show_filtered(y),
-        Reading::Refused(f, k) => show_refused(fault_number(f), place(k)),
+        Reading::Refused(f, k) => show_refused(records::fault_number(f), place(k)),
     }
 }

@@ -8,7 +8,8 @@ use native.Mathlib.Decide.{decLt}
 use lib.ListN.{length}
 use Rattle.theory.specs.Tab.{tab}
 use Rattle.year.specs.Year.{termAt}
-use Rattle.year.specs.Sums.{fixedCount, openCount, sumsAt}
+use Rattle.year.specs.Sums.{fixedCount, openCount}
+use Rattle.year.specs.SumsOf.{sumsAt}
 use Rattle.year.specs.Sound.{Sound, TermSound}
 use Rattle.year.specs.declared.Term.{Term}
 use Rattle.year.specs.declared.Sums.{Sums}

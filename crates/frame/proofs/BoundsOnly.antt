@@ -5,7 +5,8 @@ use mathlib.Core.Path.{_≡_, refl, ap, ap₂, _∙_, fun-ext}
 use native.Mathlib.Omega.{arith}
 use Rattle.theory.specs.Tab.{tab}
 use Rattle.theory.proofs.FoldLaws.{fold-keeps}
-use Rattle.year.specs.Sums.{allCredits, sumsTo, sumsAt}
+use Rattle.year.specs.Sums.{allCredits}
+use Rattle.year.specs.SumsOf.{sumsTo, sumsAt}
 use Rattle.year.specs.Sound.{Sound}
 use Rattle.year.specs.declared.Course.{Course}
 use Rattle.year.specs.declared.Year.{Year}

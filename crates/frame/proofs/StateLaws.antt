@@ -6,7 +6,7 @@ use lib.ListN.{length, getD}
 use Rattle.theory.specs.Tab.{tab}
 use Rattle.theory.proofs.TabLaws.{length-tab}
 use Rattle.year.specs.Year.{weight}
-use Rattle.year.specs.Sums.{sumsTo, sumsAt}
+use Rattle.year.specs.SumsOf.{sumsTo, sumsAt}
 use Rattle.totals.specs.Parts.{bare, yearFrom}
 use Rattle.year.specs.Sound.{Sound}
 use Rattle.totals.proofs.PartLaws.{year-is, weight-fits, list-fits}

@@ -2,7 +2,7 @@
 use mathlib.Core.List.{List}
 use Prim.Native.Nat.{ℕ}
 use Rattle.theory.specs.Tab.{tab}
-use Rattle.year.specs.Sums.{sumsAt}
+use Rattle.year.specs.SumsOf.{sumsAt}
 use Rattle.year.specs.declared.Year.{Year}
 use Rattle.totals.specs.Parts.{listsOf, yearFrom}
 use Rattle.rules.specs.Step.{Step, step}

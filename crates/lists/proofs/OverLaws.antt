@@ -12,7 +12,8 @@ use Rattle.theory.proofs.FoldLaws.{fold-more, fold-keeps, fold-finish}
 use Rattle.theory.specs.Tab.{tab}
 use Rattle.theory.proofs.TabLaws.{getD-tab}
 use Rattle.year.specs.Year.{zeroTerm, termAt, weight, lowCredits}
-use Rattle.year.specs.Sums.{openWeight, fixedCredits, fixedCount, openCount, sumsAt, noSums}
+use Rattle.year.specs.Sums.{openWeight, fixedCredits, fixedCount, openCount}
+use Rattle.year.specs.SumsOf.{sumsAt, noSums}
 use Rattle.year.specs.Sound.{Sound}
 use Rattle.year.specs.declared.Sums.{Sums}
 use Rattle.year.specs.declared.Year.{Year}

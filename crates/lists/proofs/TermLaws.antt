@@ -16,7 +16,8 @@ use Rattle.theory.proofs.SumLaws.{sum-term-le}
 use Rattle.theory.specs.Tab.{tab}
 use Rattle.theory.proofs.TabLaws.{length-tab}
 use Rattle.year.specs.Year.{termAt, courseAt, weight, isOpen, lowCredits, highCredits, lowCount, highCount}
-use Rattle.year.specs.Sums.{openWeight, fixedCredits, openCredits, possibleCredits, openOne, fixedCount, openCount, sumsTo, sumsAt}
+use Rattle.year.specs.Sums.{openWeight, fixedCredits, openCredits, possibleCredits, openOne, fixedCount, openCount}
+use Rattle.year.specs.SumsOf.{sumsTo, sumsAt}
 use Rattle.totals.specs.Parts.{listsOf, bare, yearFrom}
 use Rattle.year.specs.Sound.{Sound}
 use Rattle.year.specs.declared.Course.{Course}

@@ -7,7 +7,8 @@ use native.Mathlib.Numerals.{add-one}
 use native.Mathlib.Omega.{arith}
 use lib.ListN.{length, take, drop, length-append, length-drop}
 use lib.Seq.{paste, paste-zero, length-take-le, take-all, take-at, drop-at, drop-drop}
-use Rattle.records.specs.Writing.{joined, laid}
+use Rattle.records.specs.Writing.{joined}
+use Rattle.records.specs.Laid.{laid}
 
 -- ---- blocks
 

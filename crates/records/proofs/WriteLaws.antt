@@ -14,7 +14,8 @@ use Rattle.year.specs.Sound.{isSound, Sound}
 use Rattle.year.proofs.SoundLaws.{sound-to}
 use Rattle.year.specs.declared.Year.{Year}
 use Rattle.records.specs.declared.Writing.the-variants.{Done, Unsound, Short}
-use Rattle.records.specs.Writing.{termBlock, courseBlock, joined, recordsOf, laid, writeAnswer, written}
+use Rattle.records.specs.Writing.{termBlock, courseBlock, joined, recordsOf, writeAnswer, written}
+use Rattle.records.specs.Laid.{laid}
 use Rattle.records.proofs.LayLaws.{length-joined, laid-more}
 
 -- sixteen bytes a record

@@ -1,9 +1,9 @@
 -- Writing: a year's records one behind the other, and the buffer that they are laid into.
-use Prim.Native.Nat.{ℕ, zero, suc, _+_, _/_, _%_}
+use Prim.Native.Nat.{ℕ, zero, suc, _/_, _%_}
 use mathlib.Core.Bool.{_&&_}
 use mathlib.Core.List.{List, [], _∷_, _++_}
 use lib.Dec.{leb}
-use lib.ListN.{length, take, drop}
+use lib.ListN.{length, drop}
 use Rattle.theory.specs.Choice.{choose}
 use Rattle.year.specs.Year.{termAt, courseAt}
 use Rattle.year.specs.Sound.{isSound}
@@ -18,11 +18,16 @@ use Rattle.records.specs.declared.Writing.the-variants.{Done, Unsound, S
 -- a term's record and a course's: letter, number, two-byte numbers with the high byte first, zeros
 abbrev pub termBytes : ℕ → Term → List ℕ
 termBytes n t =
-    84 ∷ n ∷ t .low .0 / 256 ∷ t .low .0 % 256 ∷ t .high .0 / 256 ∷ t .high .0 % 256 ∷ t .least .0 / 256 ∷ t .least .0 % 256 ∷ t .most .0 / 256 ∷ t .most .0 % 256 ∷ 0 ∷ 0 ∷ 0 ∷ 0 ∷ 0 ∷ 0 ∷ []
+    84 ∷ n
+    ∷ t .low .0 / 256 ∷ t .low .0 % 256 ∷ t .high .0 / 256 ∷ t .high .0 % 256
+    ∷ t .least .0 / 256 ∷ t .least .0 % 256 ∷ t .most .0 / 256 ∷ t .most .0 % 256
+    ∷ 0 ∷ 0 ∷ 0 ∷ 0 ∷ 0 ∷ 0 ∷ []
 
 abbrev pub courseBytes : ℕ → Course → List ℕ
 courseBytes n c =
-    67 ∷ n ∷ c .weight .0 / 256 ∷ c .weight .0 % 256 ∷ c .list / 256 ∷ c .list % 256 ∷ 0 ∷ 0 ∷ 0 ∷ 0 ∷ 0 ∷ 0 ∷ 0 ∷ 0 ∷ 0 ∷ 0 ∷ []
+    67 ∷ n
+    ∷ c .weight .0 / 256 ∷ c .weight .0 % 256 ∷ c .list / 256 ∷ c .list % 256
+    ∷ 0 ∷ 0 ∷ 0 ∷ 0 ∷ 0 ∷ 0 ∷ 0 ∷ 0 ∷ 0 ∷ 0 ∷ []
 
 abbrev pub termBlock : Year → ℕ → List ℕ
 termBlock y j = termBytes j (termAt y j)
@@ -40,10 +45,6 @@ unfoldable pub recordsOf : Year → List ℕ
 recordsOf y = joined (termBlock y) (y .terms) ++ joined (courseBlock y) (y .courses)
 
 -- ---- the buffer
-
--- b with l laid over it from a place on
-unfoldable pub laid : List ℕ → ℕ → List ℕ → List ℕ
-laid b at l = take at b ++ l ++ drop (at + length l) b
 
 -- refusal 8, then refusal 9
 unfoldable pub writeAnswer : Year → ℕ → Writing

@@ -9,7 +9,8 @@ ghost use mathlib.Core.Path.{_≡_};
 ghost use Prim.Native.Nat.{_+_, _*_, _≤_, _<_};
 ghost use lib.ListN.{length};
 ghost use Rattle.year.specs.Sound.{Sound};
-ghost use Rattle.records.specs.Writing.{termBytes, courseBytes, termBlock, courseBlock, joined, laid};
+ghost use Rattle.records.specs.Writing.{termBytes, courseBytes, termBlock, courseBlock, joined};
+ghost use Rattle.records.specs.Laid.{laid};
 
 fn term_bytes(number: usize, t: Term) -> [u8; 16]
     requires { ⌜ number < 256 ⌝ }

@@ -8,9 +8,10 @@ use year::Term;
 use year::Year;
 use year::sound;
 ghost use mathlib.Core.Path.{_≡_};
-ghost use Prim.Native.Nat.{_+_, _*_, _≤_};
+ghost use Prim.Native.Nat.{_+_, _*_, _≤_, _<_};
 ghost use lib.ListN.{length};
 ghost use Rattle.year.specs.Sound.{Sound};
+ghost use Rattle.records.specs.Numbers.{faultNumber};
 ghost use Rattle.records.specs.Reading.{blankYear, refused, badLength, readList};
 ghost use Rattle.records.specs.Writing.{writeAnswer, written};
 
@@ -59,6 +60,22 @@ pub const LONGEST: usize = 1280;
 pub const TERM_LETTER: u8 = 84;
 
 pub const COURSE_LETTER: u8 = 67;
+
+// The paper's number of a fault.
+pub fn fault_number(f: Fault) -> u32
+    ensures { λ r. ⌜ r ≡ faultNumber f ⌝ }
+    ensures { λ r. ⌜ r < 256 ⌝ }
+{
+    match f {
+        Fault::Length => 1,
+        Fault::Letter => 2,
+        Fault::Number => 3,
+        Fault::Size => 4,
+        Fault::Order => 5,
+        Fault::List => 6,
+        Fault::Padding => 7,
+    }
+}
 
 fn refused(f: Fault, k: usize) -> Received
     ensures { λ r. ⌜ r ≡ refused f k ⌝ }

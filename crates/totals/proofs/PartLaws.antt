@@ -13,7 +13,8 @@ use Rattle.theory.proofs.BitLaws.{has-below, has-power}
 use Rattle.theory.specs.Tab.{tab}
 use Rattle.theory.proofs.TabLaws.{length-tab, getD-tab, tab-cong, tab-getD}
 use Rattle.year.specs.Year.{courseOf, zeroCourse, courseAt, weight, list, isFixed, isOpen}
-use Rattle.year.specs.Sums.{fixedWeight, openWeight, fixedOne, openOne, sumsTo, sumsAt, noSums}
+use Rattle.year.specs.Sums.{fixedWeight, openWeight, fixedOne, openOne}
+use Rattle.year.specs.SumsOf.{sumsTo, sumsAt, noSums}
 use Rattle.totals.specs.Parts.{weightsOf, listsOf, columnsOf, courseFrom, coursesFrom, yearFrom, bare}
 use Rattle.year.specs.Sound.{Sound}
 use Rattle.totals.specs.declared.Columns.{Columns}

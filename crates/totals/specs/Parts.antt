@@ -4,7 +4,7 @@ use mathlib.Core.List.{List, []}
 use lib.ListN.{getD}
 use Rattle.theory.specs.Tab.{tab}
 use Rattle.year.specs.Year.{zeroTerm, courseOf, weight, list}
-use Rattle.year.specs.Sums.{noSums}
+use Rattle.year.specs.SumsOf.{noSums}
 use Rattle.year.specs.declared.Term.{Term}
 use Rattle.year.specs.declared.Course.{Course}
 use Rattle.totals.specs.declared.Columns.{Columns}

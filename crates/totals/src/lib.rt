@@ -15,7 +15,8 @@ ghost use Rattle.theory.specs.Tab.{tab};
 ghost use Rattle.year.specs.Year.{isFixed, isOpen};
 ghost use Rattle.year.specs.Sound.{Sound};
 ghost use Rattle.totals.specs.Parts.{bare};
-ghost use Rattle.year.specs.Sums.{sumsTo, sumsAt, isPlaced, allPlaced, allCredits, noSums, sumsWith};
+ghost use Rattle.year.specs.SumsOf.{sumsTo, sumsAt, noSums, sumsWith};
+ghost use Rattle.year.specs.Sums.{isPlaced, allPlaced, allCredits};
 
 // The courses of a year in two arrays.
 pub struct Columns {

@@ -8,7 +8,8 @@ ghost use mathlib.Core.Path.{_≡_};
 ghost use Rattle.theory.specs.Tab.{tab};
 ghost use Rattle.theory.specs.Tests.{all};
 ghost use Rattle.year.specs.Sound.{Sound};
-ghost use Rattle.year.specs.Sums.{fixedCredits, sumsAt};
+ghost use Rattle.year.specs.Sums.{fixedCredits};
+ghost use Rattle.year.specs.SumsOf.{sumsAt};
 ghost use Rattle.year.specs.Imbalance.{fits, fitsAt, imbalanceOf};
 ghost use Rattle.theory.specs.Largest.{largest, smallest};
 

@@ -14,7 +14,8 @@ use Rattle.theory.specs.Tab.{tab}
 use Rattle.theory.proofs.TabLaws.{fill, getD-tab, fill-more, length-fill, fill-all, tab-cong, set-tab}
 use Rattle.theory.proofs.BitLaws.{has-struck}
 use Rattle.year.specs.Year.{zeroTerm, lists, lowCount}
-use Rattle.year.specs.Sums.{sumsAt, fixedCount, openCount}
+use Rattle.year.specs.SumsOf.{sumsAt}
+use Rattle.year.specs.Sums.{fixedCount, openCount}
 use Rattle.year.specs.declared.Course.{Course}
 use Rattle.year.specs.declared.Sums.{Sums}
 use Rattle.year.specs.declared.Term.{Term}

@@ -21,7 +21,8 @@ use Rattle.rules.specs.declared.Until.{Until}
 use Rattle.rules.proofs.Steps.{credits-tighter, counts-tighter}
 use Rattle.year.specs.Year.{zeroTerm}
 use Rattle.year.specs.Sound.{TermSound}
-use Rattle.year.specs.Sums.{fixedWeight, fixedOne, openOne, sumsTo}
+use Rattle.year.specs.Sums.{fixedWeight, fixedOne, openOne}
+use Rattle.year.specs.SumsOf.{sumsTo}
 use Rattle.totals.specs.Parts.{bare, coursesFrom, termIn}
 use Rattle.year.specs.declared.Course.{Course}
 use Rattle.year.specs.declared.Sums.{Sums}

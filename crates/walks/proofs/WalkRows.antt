@@ -6,7 +6,8 @@ use native.Mathlib.Omega.{arith}
 use lib.ListN.{length, getD, take}
 use Rattle.theory.specs.Tab.{tab}
 use Rattle.year.specs.Year.{termAt}
-use Rattle.year.specs.Sums.{fixedCredits, fixedCount, sumsTo, sumsAt}
+use Rattle.year.specs.Sums.{fixedCredits, fixedCount}
+use Rattle.year.specs.SumsOf.{sumsTo, sumsAt}
 use Rattle.year.specs.Sound.{Sound, TermSound}
 use Rattle.year.specs.declared.Sums.{Sums}
 use Rattle.year.specs.declared.Year.{Year}

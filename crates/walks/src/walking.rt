@@ -16,7 +16,7 @@ ghost use mathlib.Core.Path.{_≡_};
 ghost use mathlib.Core.Bool.{false};
 ghost use Prim.Native.Nat.{ℕ, _+_, _≤_, _<_};
 ghost use lib.ListN.{length, getD, take};
-ghost use Rattle.year.specs.Sums.{sumsTo};
+ghost use Rattle.year.specs.SumsOf.{sumsTo};
 ghost use Rattle.year.specs.Sound.{TermSound};
 ghost use Rattle.totals.specs.Parts.{bare, coursesFrom, termIn, sumsIn};
 ghost use Rattle.rules.specs.Spares.{stops};

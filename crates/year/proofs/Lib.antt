@@ -1,4 +1,5 @@
 -- Laws about a year's definitions, for the proofs here and above.
 pub mod SoundLaws
+pub mod CheckLaws
 pub mod DoorLaws
 pub mod SumLaws

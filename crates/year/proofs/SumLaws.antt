@@ -10,7 +10,8 @@ use Rattle.theory.proofs.SumLaws.{sum-more, sum-mono, sum-add, sum-le-mul}
 use Rattle.theory.specs.Tab.{tab}
 use Rattle.theory.proofs.TabLaws.{getD-tab}
 use Rattle.year.specs.Year.{courseAt, weight, isFixed, lists}
-use Rattle.year.specs.Sums.{fixedWeight, openWeight, fixedOne, openOne, fixedCredits, openCredits, fixedCount, openCount, allCredits, sumsTo, sumsAt, sumsWith, noSums}
+use Rattle.year.specs.Sums.{fixedWeight, openWeight, fixedOne, openOne, fixedCredits, openCredits, fixedCount, openCount, allCredits}
+use Rattle.year.specs.SumsOf.{sumsTo, sumsAt, sumsWith, noSums}
 use Rattle.year.specs.Sound.{Sound}
 use Rattle.year.specs.declared.Sums.{Sums}
 use Rattle.year.specs.declared.Year.{Year}

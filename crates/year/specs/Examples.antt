@@ -43,7 +43,8 @@ crowdedE = placed (placed firstPlaced 1 0) 2 0
 abbrev pub foreignE : Year
 foreignE = withList yearE 2 7
 
--- a year of n terms and m courses with every entry filled: each course of weight w lists all sixteen terms, each term has the bounds 0-v and 0-k
+-- a year of n terms and m courses with every entry filled: each course of weight w lists all sixteen terms,
+-- each term has the bounds 0-v and 0-k
 abbrev pub fullYear : ℕ → ℕ → ℕ → ℕ → ℕ → Year
 fullYear n m w v k = record { terms = n; courses = m; term = replicate 16 (termOf 0 v 0 k); course = replicate 64 (courseOf w 65535) }
 
@@ -91,10 +92,17 @@ pub no-weight : isSound (fullYear 16 64 0 64000 64) ≡ false
 unfolding isSound all
 no-weight = refl
 
--- an entry past the last term that is not zero
-pub past-the-last : isSound (withTerm yearE 2 (termOf 0 1 0 0)) ≡ false
+-- an entry past the last that is not zero, of a term and of a course
+pub past-the-last : (isSound (withTerm yearE 2 (termOf 0 1 0 0)) ≡ false) × (isSound (withList yearE 3 1) ≡ false)
 unfolding isSound all
-past-the-last = refl
+past-the-last = (refl, refl)
+
+-- a low bound up to its high bound, and past it
+pub bounds-ordered : (isSound (withTerm yearE 0 (termOf 4 4 3 3)) ≡ true)
+    × (isSound (withTerm yearE 0 (termOf 5 4 3 3)) ≡ false)
+    × (isSound (withTerm yearE 0 (termOf 4 4 4 3)) ≡ false)
+unfolding isSound all
+bounds-ordered = (refl, refl, refl)
 
 -- ---- placing and barring
 
@@ -147,7 +155,7 @@ pub raises-nothing : raiseLowCountOf yearE 0 0 ≡ answered Done yearE
 unfolding raiseLowCountOf countsWithin isSound all
 raises-nothing = refl
 
-pub lowers-nothing : lowerHighCreditsOf yearE 0 64000 ≡ answered Done yearE
+pub lowers-nothing : lowerHighCreditsOf yearE 0 4 ≡ answered Done yearE
 unfolding lowerHighCreditsOf creditsWithin isSound all
 lowers-nothing = refl
 
@@ -156,15 +164,26 @@ pub crosses : raiseLowCreditsOf yearE 0 5 ≡ answered Crossing yearE
 unfolding raiseLowCreditsOf creditsWithin isSound all
 crosses = refl
 
--- a bound outside the sizes; of a term that the year lacks, the term is refused first
-pub outside-credits : lowerHighCreditsOf yearE 0 64001 ≡ answered Outside yearE
-unfolding lowerHighCreditsOf creditsWithin isSound all
-outside-credits = refl
+-- the largest bound of the sizes, which crosses or is no tighter here, and one past it
+pub largest-credits : (raiseLowCreditsOf yearE 0 64000 ≡ answered Crossing yearE)
+    × (lowerHighCreditsOf yearE 0 64000 ≡ answered Done yearE)
+unfolding raiseLowCreditsOf lowerHighCreditsOf creditsWithin isSound all
+largest-credits = (refl, refl)
 
-pub outside-count : raiseLowCountOf yearE 0 65 ≡ answered Outside yearE
-unfolding raiseLowCountOf countsWithin isSound all
-outside-count = refl
+pub outside-credits : (raiseLowCreditsOf yearE 0 64001 ≡ answered Outside yearE)
+    × (lowerHighCreditsOf yearE 0 64001 ≡ answered Outside yearE)
+unfolding raiseLowCreditsOf lowerHighCreditsOf creditsWithin isSound all
+outside-credits = (refl, refl)
 
+pub largest-count : (raiseLowCountOf yearE 0 64 ≡ answered Crossing yearE) × (lowerHighCountOf yearE 0 64 ≡ answered Done yearE)
+unfolding raiseLowCountOf lowerHighCountOf countsWithin isSound all
+largest-count = (refl, refl)
+
+pub outside-count : (raiseLowCountOf yearE 0 65 ≡ answered Outside yearE) × (lowerHighCountOf yearE 0 65 ≡ answered Outside yearE)
+unfolding raiseLowCountOf lowerHighCountOf countsWithin isSound all
+outside-count = (refl, refl)
+
+-- of a term that the year lacks, the term is refused first
 pub missing-first : raiseLowCountOf yearE 2 65 ≡ answered Missing yearE
 unfolding raiseLowCountOf countsWithin isSound all
 missing-first = refl

@@ -1,4 +1,4 @@
--- To be believed: what a year means. Read these first, in this order.
+-- To be believed: what a year means. Read these first, in this order. SumsOf alone is inner.
 pub mod Year
 pub mod Sound
 pub mod Sums
@@ -8,3 +8,4 @@ pub mod Imbalance
 pub mod Plans
 pub mod Numbers
 pub mod Examples
+pub mod SumsOf

@@ -32,7 +32,10 @@ placing y i j = choose (lists (courseAt y i) j) (answered Done (placed y i j)) (
 
 -- course i without term j, unless j is its last; a term that is not listed alters nothing
 abbrev pub barring : Year → ℕ → ℕ → Narrowed
-barring y i j = choose (lists (courseAt y i) j) (choose (eqb (list y i) (2 ^ j)) (answered Crossing y) (answered Done (struck y i j))) (answered Done y)
+barring y i j =
+    choose (lists (courseAt y i) j)
+    (choose (eqb (list y i) (2 ^ j)) (answered Crossing y) (answered Done (struck y i j)))
+    (answered Done y)
 
 unfoldable pub placeOf : Year → ℕ → ℕ → Narrowed
 placeOf y i j = checked y (noSuch y i j) false (placing y i j)

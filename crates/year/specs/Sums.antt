@@ -5,7 +5,6 @@ use Rattle.theory.specs.Sum.{pick, sum}
 use Rattle.theory.specs.Tests.{any, all}
 use Rattle.year.specs.Year.{courseAt, weight, isFixed, isOpen}
 use Rattle.year.specs.declared.Course.{Course}
-use Rattle.year.specs.declared.Sums.{Sums}
 use Rattle.year.specs.declared.Year.{Year}
 
 -- ---- what course i adds
@@ -62,28 +61,3 @@ placedAt y i = isPlaced (courseAt y i)
 -- every course has one term
 unfoldable pub allPlaced : Year → Bool
 allPlaced y = all (y .courses) (placedAt y)
-
--- ---- the four sums of a term in one value, over the first n courses
-
-abbrev pub sumsTo : Year → ℕ → ℕ → Sums
-sumsTo y j n = record {
-  fixed = record { 0 = sum n (fixedWeight y j) };
-  possible = record { 0 = sum n (fixedWeight y j) + sum n (openWeight y j) };
-  placed = record { 0 = sum n (fixedOne y j) };
-  free = record { 0 = sum n (openOne y j) };
-}
-
-unfoldable pub sumsAt : Year → ℕ → Sums
-sumsAt y j = sumsTo y j (y .courses)
-
-abbrev pub noSums : Sums
-noSums = record { fixed = record { 0 = 0 }; possible = record { 0 = 0 }; placed = record { 0 = 0 }; free = record { 0 = 0 } }
-
--- the sums with one course more
-abbrev pub sumsWith : Sums → Course → ℕ → Sums
-sumsWith s c j = record {
-  fixed = record { 0 = s .fixed .0 + pick (isFixed c j) (c .weight .0) };
-  possible = record { 0 = s .possible .0 + pick (isFixed c j) (c .weight .0) + pick (isOpen c j) (c .weight .0) };
-  placed = record { 0 = s .placed .0 + pick (isFixed c j) 1 };
-  free = record { 0 = s .free .0 + pick (isOpen c j) 1 };
-}

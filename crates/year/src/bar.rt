@@ -1,9 +1,10 @@
-// Barring a course from a term: a method on the year by value, with its answer beside the year. A refused one hands back the year it was given.
+// Barring a course from a term: a method on the year by value, with its answer beside the year.
+// A refused one hands back the year it was given.
 use crate::Narrowed;
 use crate::Narrowing;
 use crate::Year;
+use crate::checks;
 use crate::doors;
-use crate::sound;
 ghost use mathlib.Core.Path.{_≡_};
 ghost use Prim.Native.Nat.{_<_};
 ghost use Rattle.year.specs.Sound.{Sound};
@@ -41,18 +42,13 @@ impl Year {
     pub fn bar(mut self, i: usize, j: usize) -> Narrowed
         ensures { λ r. ⌜ r ≡ barOf self i j ⌝ }
     {
-        if !sound::is_sound(self) {
-            return Narrowed {
-                answer: Narrowing::Unsound,
+        let a = checks::named(self, i, j);
+        match a {
+            Narrowing::Done => bar_from(self, i, j),
+            _ => Narrowed {
+                answer: a,
                 year: self,
-            };
+            },
         }
-        if (self.courses <= i) | (self.terms <= j) {
-            return Narrowed {
-                answer: Narrowing::Missing,
-                year: self,
-            };
-        }
-        bar_from(self, i, j)
     }
 }

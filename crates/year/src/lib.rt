@@ -1,5 +1,6 @@
 // What a year is: its terms, its courses, its limits; what is sound; the doors; the narrowings.
 mod bar;
+mod checks;
 pub mod doors;
 mod limits;
 mod place;

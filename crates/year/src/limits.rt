@@ -1,4 +1,5 @@
-// The four narrowings of bounds: methods on the year by value, each with its answer beside the year. A refused one hands back the year it was given.
+// The four narrowings of bounds: methods on the year by value, each with its answer beside the year.
+// A refused one hands back the year it was given.
 use crate::Courses;
 use crate::Credits;
 use crate::Narrowed;
@@ -6,8 +7,8 @@ use crate::Narrowing;
 use crate::Term;
 use crate::Tight;
 use crate::Year;
+use crate::checks;
 use crate::doors;
-use crate::sound;
 use crate::tighter;
 ghost use mathlib.Core.Path.{_≡_};
 ghost use Prim.Native.Nat.{_<_};
@@ -58,25 +59,11 @@ fn tighten(y: Year, j: usize, w: Tight) -> Narrowed
 fn bound(y: Year, j: usize, outside: bool, w: Tight) -> Narrowed
     ensures { λ r. ⌜ r ≡ boundOf y j outside w ⌝ }
 {
-    if !sound::is_sound(y) {
-        return Narrowed {
-            answer: Narrowing::Unsound,
-            year: y,
-        };
+    let a = checks::checked(y, y.terms <= j, outside);
+    match a {
+        Narrowing::Done => tighten(y, j, w),
+        _ => Narrowed { answer: a, year: y },
     }
-    if y.terms <= j {
-        return Narrowed {
-            answer: Narrowing::Missing,
-            year: y,
-        };
-    }
-    if outside {
-        return Narrowed {
-            answer: Narrowing::Outside,
-            year: y,
-        };
-    }
-    tighten(y, j, w)
 }
 
 impl Year {

@@ -1,9 +1,10 @@
-// Placing a course: a method on the year by value, with its answer beside the year. A refused one hands back the year it was given.
+// Placing a course: a method on the year by value, with its answer beside the year.
+// A refused one hands back the year it was given.
 use crate::Narrowed;
 use crate::Narrowing;
 use crate::Year;
+use crate::checks;
 use crate::doors;
-use crate::sound;
 ghost use mathlib.Core.Path.{_≡_};
 ghost use Prim.Native.Nat.{_<_};
 ghost use Rattle.year.specs.Sound.{Sound};
@@ -34,18 +35,13 @@ impl Year {
     pub fn place(mut self, i: usize, j: usize) -> Narrowed
         ensures { λ r. ⌜ r ≡ placeOf self i j ⌝ }
     {
-        if !sound::is_sound(self) {
-            return Narrowed {
-                answer: Narrowing::Unsound,
+        let a = checks::named(self, i, j);
+        match a {
+            Narrowing::Done => place_in(self, i, j),
+            _ => Narrowed {
+                answer: a,
                 year: self,
-            };
+            },
         }
-        if (self.courses <= i) | (self.terms <= j) {
-            return Narrowed {
-                answer: Narrowing::Missing,
-                year: self,
-            };
-        }
-        place_in(self, i, j)
     }
 }

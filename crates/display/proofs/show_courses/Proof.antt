@@ -1,8 +1,6 @@
+-- `show_courses`: the loop's number stays at most the number of courses.
 use Rattle.display.proofs.show_courses.Statement.{statement}
 use Rattle.display.proofs.show_courses.Tie as tie
-use Rattle.display.proofs.show_courses.Reads as reads
-use Rattle.display.proofs.show_courses.Lts as lts
-use Rattle.display.proofs.show_course.Reads as show-course-reads
 use Prim.Native.Nat.{_≤_, _-_}
 use borrow.Author.Needs.{needs}
 

@@ -1,8 +1,6 @@
+-- `show_terms`: the loop's number stays at most the number of terms.
 use Rattle.display.proofs.show_terms.Statement.{statement}
 use Rattle.display.proofs.show_terms.Tie as tie
-use Rattle.display.proofs.show_terms.Reads as reads
-use Rattle.display.proofs.show_terms.Lts as lts
-use Rattle.display.proofs.show_term.Reads as show-term-reads
 use Prim.Native.Nat.{_≤_, _-_}
 use borrow.Author.Needs.{needs}
 

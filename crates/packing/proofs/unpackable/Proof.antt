@@ -8,7 +8,7 @@ use borrow.Author.Needs.{needs}
 use Rattle.theory.specs.Tab.{tab}
 use Rattle.theory.proofs.TabLaws.{length-tab}
 use Rattle.theory.specs.Tests.{any}
-use Rattle.year.specs.Sums.{sumsAt}
+use Rattle.year.specs.SumsOf.{sumsAt}
 use Rattle.frame.specs.State.{yearIn}
 use Rattle.frame.proofs.StateLaws.{sums-held, list-long}
 use Rattle.packing.specs.Sizes.{sizeIn, usedIn, over}

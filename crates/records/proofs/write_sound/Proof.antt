@@ -4,7 +4,8 @@ use mathlib.Core.List.{List}
 use mathlib.Core.Path.{_∙_, ap}
 use native.Mathlib.Omega.{arith}
 use borrow.Author.Needs.{needs}
-use Rattle.records.specs.Writing.{courseBlock, joined, laid}
+use Rattle.records.specs.Writing.{courseBlock, joined}
+use Rattle.records.specs.Laid.{laid}
 use Rattle.records.proofs.WriteLaws.{laid-all}
 use Rattle.records.proofs.write_sound.Statement.{statement}
 use Rattle.records.proofs.write_sound.Tie as tie

@@ -1,3 +1,4 @@
+-- `with_number`: each call has a tenth of the number.
 use Prim.Native.Nat.{ℕ, _<_}
 use borrow.Fn.Kinds.{In}
 use borrow.Fn.PlainCycle.{Measures, is, falls, and}

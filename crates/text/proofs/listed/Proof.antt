@@ -1,9 +1,6 @@
+-- `listed`: the loop's number stays at most sixteen.
 use Rattle.text.proofs.listed.Statement.{statement}
 use Rattle.text.proofs.listed.Tie as tie
-use Rattle.text.proofs.listed.Reads as reads
-use Rattle.text.proofs.listed.Lts as lts
-use Rattle.text.proofs.with_byte.Reads as with-byte-reads
-use Rattle.text.proofs.with_number.Reads as with-number-reads
 use Prim.Native.Nat.{_≤_, _-_}
 use borrow.Author.Needs.{needs}
 

@@ -1,3 +1,4 @@
+-- `write_front`: the part that is written is as long as asked, since the array has room for it.
 use Prim.Native.Nat.{_≤_}
 use mathlib.Core.Path.{_≡_, sym}
 use native.Mathlib.Omega.{arith}
@@ -6,9 +7,6 @@ use lib.Seq.{length-take-le}
 use borrow.Author.Needs.{needs}
 use Rattle.text.proofs.write_front.Statement.{statement}
 use Rattle.text.proofs.write_front.Tie as tie
-use Rattle.text.proofs.write_front.Reads as reads
-use Rattle.text.proofs.write_front.Lts as lts
-use Rattle.io.proofs.write_all.Reads as write-all-reads
 
 long : (c : tie.Start) → length (c .args .t1) ≡ 64
 long c = search needs

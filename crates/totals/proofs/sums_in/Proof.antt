@@ -5,7 +5,7 @@ use native.Mathlib.Omega.{arith}
 use borrow.Author.Needs.{needs}
 use Rattle.theory.specs.Sum.{sum}
 use Rattle.year.specs.Year.{courseAt, weight}
-use Rattle.year.specs.Sums.{sumsTo, sumsWith}
+use Rattle.year.specs.SumsOf.{sumsTo, sumsWith}
 use Rattle.totals.specs.Parts.{bare}
 use Rattle.year.specs.declared.Course.{Course}
 use Rattle.year.proofs.SumLaws.{sums-more, sums-fit}

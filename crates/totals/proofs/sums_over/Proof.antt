@@ -6,7 +6,7 @@ use native.Mathlib.Omega.{arith}
 use lib.ListN.{length, replicate, set, length-replicate, getD-replicate}
 use borrow.Author.Needs.{needs}
 use Rattle.theory.proofs.TabLaws.{fill, fill-more, fill-front, length-fill}
-use Rattle.year.specs.Sums.{sumsTo, noSums}
+use Rattle.year.specs.SumsOf.{sumsTo, noSums}
 use Rattle.totals.specs.Parts.{bare}
 use Rattle.year.specs.declared.Sums.{Sums}
 use Rattle.totals.proofs.PartLaws.{sums-past}

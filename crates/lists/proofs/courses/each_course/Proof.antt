@@ -5,7 +5,8 @@ use mathlib.Core.Path.{_≡_, refl, sym, ap, _∙_}
 use native.Mathlib.Omega.{arith}
 use borrow.Author.Needs.{needs}
 use Rattle.theory.specs.Fold.{fold}
-use Rattle.year.specs.Sums.{sumsAt, fixedCredits, openCredits}
+use Rattle.year.specs.SumsOf.{sumsAt}
+use Rattle.year.specs.Sums.{fixedCredits, openCredits}
 use Rattle.year.specs.declared.Sums.{Sums}
 use Rattle.year.proofs.SumLaws.{sums-read}
 use Rattle.totals.proofs.PartLaws.{course-in}

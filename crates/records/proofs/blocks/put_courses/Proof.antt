@@ -8,7 +8,8 @@ use native.Mathlib.Omega.{arith}
 use borrow.Author.Needs.{needs}
 use lib.ListN.{length}
 use Rattle.year.specs.Sound.{Sound}
-use Rattle.records.specs.Writing.{courseBlock, joined, laid}
+use Rattle.records.specs.Writing.{courseBlock, joined}
+use Rattle.records.specs.Laid.{laid}
 use Rattle.records.proofs.LayLaws as law
 
 abbrev Inv-loop : tie.InvT-loop

@@ -1,39 +1,34 @@
--- The refusals in their order; past them the year is sound and has the course and the term.
-use mathlib.Core.Bool.{true}
-use mathlib.Core.Path.{_≡_, sym, _∙_}
+-- What is due before is refused, or the year is sound and has the course and the term.
+use mathlib.Core.Path.{_∙_}
 use borrow.Author.Needs.{needs}
-use borrow.Author.Tests.{not-true, not-false, leb-false}
-use Rattle.theory.proofs.TestLaws.{or-false}
-use Rattle.year.specs.Sound.{isSound}
 use Rattle.year.specs.Narrow.{barOf}
-use Rattle.year.proofs.SoundLaws.{sound-of}
+use Rattle.year.proofs.CheckLaws.{named-there, named-done, named-refused, no-refusal}
 use Rattle.year.proofs.Year.bar.Statement.{statement}
 use Rattle.year.proofs.Year.bar.Tie as tie
 
-is-sound-requires : tie.Need-is-sound-requires
-is-sound-requires c κs = search needs
+named-requires : tie.Need-named-requires
+named-requires c κs = search needs
 
-returns : tie.Need-returns
-unfolding barOf
-returns c = simp (sym (c .before .is-sound .ensures) ∙ not-true _ (c .if1 .taken))
-
--- past the first refusal the year is sound
-sound : (c : tie.Else1) → isSound (c .before .before .args .self) ≡ true
-sound c = sym (c .before .is-sound .ensures) ∙ not-false _ (c .if1 .left)
-
-returns-2 : tie.Need-returns-2
-unfolding barOf
-returns-2 c = simp (sound (c .before .before .before), c .if2 .taken)
+enum-told : tie.Need-enum-told
+enum-told c = search needs
 
 bar-from-requires : tie.Need-bar-from-requires
 bar-from-requires c κs =
-    let e = c .before .before .before in
-    let h = or-false _ _ (c .if2 .left) in
-    (sound-of (e .before .before .args .self) (sound e), (leb-false _ _ (h .0), leb-false _ _ (h .1)))
+    let b = c .before .before .before .args in
+    named-there (b .self) (b .i) (b .j) _ (c .before .before .named .ensures) (c .enum-told .given .1)
 
-returns-3 : tie.Need-returns-3
+returns : tie.Need-returns
 unfolding barOf
-returns-3 c = simp (sound (c .before .before .before .before), c .before .if2 .left, c .bar-from .ensures)
+returns c =
+    let b = c .before .before .before .before .args in
+    c .bar-from .ensures
+    ∙ named-done (b .self) (b .i) (b .j) _ (c .before .before .before .named .ensures) (c .before .enum-told .given .1) _
+
+returns-2 : tie.Need-returns-2
+unfolding barOf
+returns-2 c =
+    let b = c .before .before .args in
+    named-refused (b .self) (b .i) (b .j) _ (c .before .named .ensures) (λ e. no-refusal (rw e at (c .match .keys2))) _
 
 pub bar-spec : {M : Type 1} → statement M
-bar-spec = tie.close (tie.spec is-sound-requires returns returns-2 bar-from-requires returns-3)
+bar-spec = tie.close (tie.spec named-requires enum-told bar-from-requires returns returns-2)

@@ -1,0 +1,33 @@
+-- Inner, not to be believed: the four sums of a term in one value, as the code counts them course by course.
+use Prim.Native.Nat.{ℕ, _+_}
+use Rattle.theory.specs.Sum.{pick, sum}
+use Rattle.year.specs.Year.{isFixed, isOpen}
+use Rattle.year.specs.Sums.{fixedWeight, openWeight, fixedOne, openOne}
+use Rattle.year.specs.declared.Course.{Course}
+use Rattle.year.specs.declared.Sums.{Sums}
+use Rattle.year.specs.declared.Year.{Year}
+
+-- over the first n courses
+abbrev pub sumsTo : Year → ℕ → ℕ → Sums
+sumsTo y j n = record {
+  fixed = record { 0 = sum n (fixedWeight y j) };
+  possible = record { 0 = sum n (fixedWeight y j) + sum n (openWeight y j) };
+  placed = record { 0 = sum n (fixedOne y j) };
+  free = record { 0 = sum n (openOne y j) };
+}
+
+-- over all of them
+unfoldable pub sumsAt : Year → ℕ → Sums
+sumsAt y j = sumsTo y j (y .courses)
+
+abbrev pub noSums : Sums
+noSums = record { fixed = record { 0 = 0 }; possible = record { 0 = 0 }; placed = record { 0 = 0 }; free = record { 0 = 0 } }
+
+-- the sums with one course more
+abbrev pub sumsWith : Sums → Course → ℕ → Sums
+sumsWith s c j = record {
+  fixed = record { 0 = s .fixed .0 + pick (isFixed c j) (c .weight .0) };
+  possible = record { 0 = s .possible .0 + pick (isFixed c j) (c .weight .0) + pick (isOpen c j) (c .weight .0) };
+  placed = record { 0 = s .placed .0 + pick (isFixed c j) 1 };
+  free = record { 0 = s .free .0 + pick (isOpen c j) 1 };
+}
