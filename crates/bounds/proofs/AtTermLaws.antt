@@ -63,16 +63,6 @@ module _ (t : List Term) (j : ℕ) (l : j < 16) where
   )
 
   module _ (long : length t ≡ 16) (v : Term) where
-    set-at : (P : Term → Term → Type 0) → P (termIn t j) v → ((k : ℕ) → P (termIn t k) (termIn t k)) → (k : ℕ) → P (termIn t k) (termIn (set t j v) k)
-    set-at P new old k = go (ℕ-discrete k j)
-      where
-        go : Dec (k ≡ j) → P (termIn t k) (termIn (set t j v) k)
-        go (yes e) = rw (e, getD-set-same t j v zeroTerm (omega arith)) new
-        go (no ne) = rw (getD-set-other t j k v zeroTerm ne) (old k)
-
-    pub set-sound : TermSound v → ((k : ℕ) → k < 16 → TermSound (termIn t k)) → (k : ℕ) → k < 16 → TermSound (termIn (set t j v) k)
-    set-sound new old k h = set-at (λ a b. TermSound a → TermSound b) (λ s. new) (λ i s. s) k (old k h)
-
     sum-set : (f : Term → ℕ) → sum 16 (λ k. f (termIn t k)) - f (termIn t j) + f v ≡ sum 16 (λ k. f (termIn (set t j v) k))
     sum-set f =
         let here : f (termIn (set t j v) j) ≡ f v = ap f (getD-set-same t j v zeroTerm (omega arith)) in

@@ -4,10 +4,11 @@ use mathlib.Core.List.{List}
 use mathlib.Core.Path.{_≡_, sym, ap, ap₂, _∙_}
 use native.Mathlib.Omega.{arith}
 use native.Mathlib.Nat.{le-refl}
-use native.Mathlib.Decide.{decLt}
-use lib.ListN.{length}
+use native.Mathlib.Decide.{decLt, ℕ-discrete}
+use lib.ListN.{length, set}
+use lib.Seq.{getD-set-same, getD-set-other}
 use Rattle.theory.specs.Tab.{tab}
-use Rattle.year.specs.Year.{termAt}
+use Rattle.year.specs.Year.{zeroTerm, termAt}
 use Rattle.year.specs.Sums.{fixedCount, openCount}
 use Rattle.year.specs.SumsOf.{sumsAt}
 use Rattle.year.specs.Sound.{Sound, TermSound}
@@ -35,6 +36,14 @@ all-sound y s k h = go (decLt k (y .terms))
     go (no l) =
         rw (s .term-blank k (omega (arith, l)) h)
         (record { credits-ordered = omega arith; credits-most = omega arith; count-ordered = omega arith; count-most = omega arith })
+
+-- terms within the sizes stay so when one more is stored
+pub stored-sound : (t : List Term) (j : ℕ) (v : Term) → j < length t → TermSound v → ((k : ℕ) → k < 16 → TermSound (termIn t k)) → (k : ℕ) → k < 16 → TermSound (termIn (set t j v) k)
+stored-sound t j v l new old k h = go (ℕ-discrete k j)
+  where
+    go : Dec (k ≡ j) → TermSound (termIn (set t j v) k)
+    go (yes e) = rw (e, getD-set-same t j v zeroTerm l) new
+    go (no ne) = rw (getD-set-other t j k v zeroTerm ne) (old k h)
 
 -- ---- rules in a row
 

@@ -5,10 +5,9 @@ use mathlib.Core.List.{List, [], _∷_}
 use mathlib.Core.Path.{_≡_, refl, sym, ap, subst, _∙_}
 use native.Mathlib.Numerals.{add-one}
 use native.Mathlib.Omega.{arith}
-use native.Mathlib.Decide.{ℕ-discrete}
 use lib.Dec.{ltb}
-use lib.ListN.{length, getD, set, take, drop, length-take, drop-of-length-le}
-use lib.Seq.{drop-cons, getD-take, getD-set-same, getD-set-other}
+use lib.ListN.{length, getD, take, drop, length-take, drop-of-length-le}
+use lib.Seq.{drop-cons, getD-take}
 use borrow.Author.Tests.{ltb-true, ltb-false, not-true}
 use Rattle.theory.specs.Sum.{pick, sum}
 use Rattle.theory.proofs.SumLaws.{sum-term-le}
@@ -19,11 +18,10 @@ use Rattle.theory.specs.Walk.{Table, Reached, walk}
 use Rattle.rules.specs.Spares.{blocked, charged, stops}
 use Rattle.rules.specs.declared.Until.{Until}
 use Rattle.rules.proofs.Steps.{credits-tighter, counts-tighter}
-use Rattle.year.specs.Year.{zeroTerm}
 use Rattle.year.specs.Sound.{TermSound}
 use Rattle.year.specs.Sums.{fixedWeight, fixedOne, openOne}
 use Rattle.year.specs.SumsOf.{sumsTo}
-use Rattle.totals.specs.Parts.{bare, coursesFrom, termIn}
+use Rattle.totals.specs.Parts.{bare, coursesFrom}
 use Rattle.year.specs.declared.Course.{Course}
 use Rattle.year.specs.declared.Sums.{Sums}
 use Rattle.year.specs.declared.Term.{Term}
@@ -151,11 +149,3 @@ ended-sound LeastCount t w s = counts-tighter 6 _ t (w .count) (t .most .0) s .s
 ended-sound MostCount t w s = counts-tighter 7 _ t (t .least .0) (w .count) s .sound
 ended-sound LeastLoad t w s = credits-tighter 8 _ t (w .credits) (t .high .0) s .sound
 ended-sound MostLoad t w s = credits-tighter 9 _ t (t .low .0) (w .credits) s .sound
-
--- and all terms are, when it is stored
-pub stored-sound : (t : List Term) (j : ℕ) (v : Term) → j < length t → TermSound v → ((k : ℕ) → k < 16 → TermSound (termIn t k)) → (k : ℕ) → k < 16 → TermSound (termIn (set t j v) k)
-stored-sound t j v l new old k h = go (ℕ-discrete k j)
-  where
-    go : Dec (k ≡ j) → TermSound (termIn (set t j v) k)
-    go (yes e) = rw (e, getD-set-same t j v zeroTerm l) new
-    go (no ne) = rw (getD-set-other t j k v zeroTerm ne) (old k h)

@@ -14,7 +14,8 @@ use Rattle.bounds.specs.AtTerm.{totalsTo, otherTermsOf, otherTermsAt}
 use Rattle.frame.specs.Bounds.{boundsOver}
 use Rattle.frame.specs.declared.Bounds.{Bounds}
 use Rattle.bounds.specs.declared.Totals.{Totals}
-use Rattle.bounds.proofs.AtTermLaws.{totals-fit, entry-le, set-sound, totals-set, other-terms-sound}
+use Rattle.bounds.proofs.AtTermLaws.{totals-fit, entry-le, totals-set, other-terms-sound}
+use Rattle.frame.proofs.BoundsAt.{stored-sound}
 use Rattle.frame.proofs.BoundsOver.{goes-on, over-long, term-turn, over-finish}
 use Rattle.bounds.proofs.terms.over_other_terms.Statement.{statement}
 use Rattle.bounds.proofs.terms.over_other_terms.Tie as tie
@@ -100,7 +101,7 @@ loop-again c =
       omega (arith, on l e .0),
       term-turn _ _ (l .loop .j) z o (l .loop .inv .1) (on l e .1) (q ∙ ap (outcomeAt l) (l .loop .inv .2)),
       c .before .changed .ensures ∙ totals-set (z .term) (l .loop .j) h (long l) (o .term) (l .loop .x) (l .loop .inv .2),
-      set-sound (z .term) (l .loop .j) h (long l) (o .term) (new l h o q) (l .loop .inv .3),
+      stored-sound (z .term) (l .loop .j) (o .term) (omega (arith, h, long l)) (new l h o q) (l .loop .inv .3),
     )
 
 returns : tie.Need-returns Inv-loop μ-loop

@@ -17,12 +17,13 @@ use Rattle.year.specs.declared.Sums.{Sums}
 use Rattle.year.specs.declared.Term.{Term}
 use Rattle.frame.specs.Bounds.{boundsOver}
 use Rattle.frame.specs.declared.Bounds.{Bounds}
+use Rattle.frame.proofs.BoundsAt.{stored-sound}
 use Rattle.frame.proofs.BoundsOver.{goes-on, over-long, term-turn, over-finish}
 use Rattle.walks.specs.Sparing.{spareFrom}
 use Rattle.walks.specs.Walking.{walkOver, begunOf, untilOf, endedOf, walkedAt}
 use Rattle.walks.specs.declared.WalkRule.{WalkRule}
 use Rattle.walks.proofs.SparingLaws.{spares-from, low-counts-set}
-use Rattle.walks.proofs.WalkLaws.{ended-sound, stored-sound}
+use Rattle.walks.proofs.WalkLaws.{ended-sound}
 use Rattle.walks.proofs.walking.walk_rule.Statement.{statement}
 use Rattle.walks.proofs.walking.walk_rule.Tie as tie
 
