@@ -6,19 +6,19 @@ use borrow.Author.Needs.{needs}
 use Rattle.theory.specs.Tab.{tab}
 use Rattle.totals.specs.Parts.{coursesFrom}
 use Rattle.totals.proofs.PartLaws.{course-in}
-use Rattle.lists.specs.Tops.{topTo, topWith}
-use Rattle.lists.proofs.TopLaws.{tops-more}
-use Rattle.lists.proofs.tops.tops.Statement.{statement}
-use Rattle.lists.proofs.tops.tops.Tie as tie
+use Rattle.lists.specs.Heaviest.{heaviestTo, heaviestWith}
+use Rattle.lists.proofs.HeaviestLaws.{heaviest-all-more}
+use Rattle.lists.proofs.heaviest.heaviest.Statement.{statement}
+use Rattle.lists.proofs.heaviest.heaviest.Tie as tie
 
 abbrev Inv-loop : tie.InvT-loop
-Inv-loop weight list n top₀ i₀ top i = (i ≤ n) × (top ≡ tab 16 (topTo (coursesFrom weight list) i))
+Inv-loop weight list n heaviest₀ i₀ heaviest i = (i ≤ n) × (heaviest ≡ tab 16 (heaviestTo (coursesFrom weight list) i))
 
 abbrev μ-loop : tie.MeasureT-loop
-μ-loop weight list n top₀ i₀ top i = n - i
+μ-loop weight list n heaviest₀ i₀ heaviest i = n - i
 
 loop-holds : tie.Need-loop-holds Inv-loop μ-loop
-unfolding tab topTo
+unfolding tab heaviestTo
 loop-holds c = (search needs, refl)
 
 course-requires : tie.Need-course-requires Inv-loop μ-loop
@@ -38,16 +38,16 @@ loop-again c = let q = c .before in
     let l = q .before .before in
     let a = l .before .before .before .args in
     let read = q .course .ensures ∙ sym (course-in (a .weight .now) (a .list .now) (l .loop .i) (omega arith)) in
-    (search needs, c .with-course .ensures ∙ ap₂ (λ t x. tab 16 (topWith t x)) (l .loop .inv .1) read ∙ tops-more (coursesFrom (a .weight .now) (a .list .now)) (l .loop .i))
+    (search needs, c .with-course .ensures ∙ ap₂ (λ t x. tab 16 (heaviestWith t x)) (l .loop .inv .1) read ∙ heaviest-all-more (coursesFrom (a .weight .now) (a .list .now)) (l .loop .i))
 
 returns : tie.Need-returns Inv-loop μ-loop
 returns c = let l = c .before in
     let a = l .before .before .before .args in
     let is : l .loop .i ≡ a .n = omega arith in
-    l .loop .inv .1 ∙ ap (λ n. tab 16 (topTo (coursesFrom (a .weight .now) (a .list .now)) n)) is
+    l .loop .inv .1 ∙ ap (λ n. tab 16 (heaviestTo (coursesFrom (a .weight .now) (a .list .now)) n)) is
 
-pub tops-spec : {M : Type 1} → statement M
-tops-spec =
+pub heaviest-spec : {M : Type 1} → statement M
+heaviest-spec =
     tie.close
     (tie.spec
     Inv-loop

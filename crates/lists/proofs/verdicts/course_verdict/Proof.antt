@@ -1,7 +1,7 @@
--- Each judge has the verdict of its rule.
+-- The verdict on a course is that of the rule which speaks of its term.
 use borrow.Author.Needs.{needs}
-use Rattle.lists.proofs.verdicts.verdict_of.Statement.{statement}
-use Rattle.lists.proofs.verdicts.verdict_of.Tie as tie
+use Rattle.lists.proofs.verdicts.course_verdict.Statement.{statement}
+use Rattle.lists.proofs.verdicts.course_verdict.Tie as tie
 
 enum-told : tie.Need-enum-told
 enum-told c = search needs
@@ -9,8 +9,8 @@ enum-told c = search needs
 verdict-3-requires : tie.Need-verdict-3-requires
 verdict-3-requires c κs = search needs
 
-enum-known-w : tie.Need-enum-known-w
-enum-known-w c = search needs
+enum-known-whole : tie.Need-enum-known-whole
+enum-known-whole c = search needs
 
 verdict-10-requires : tie.Need-verdict-10-requires
 verdict-10-requires c κs = search needs
@@ -25,7 +25,7 @@ returns : tie.Need-returns
 returns c = rw (c .before .enum-told .given .1) (c .verdict-3 .ensures)
 
 returns-2 : tie.Need-returns-2
-returns-2 c = rw (c .before .before .w .given .1) (c .verdict-10 .ensures)
+returns-2 c = rw (c .before .before .whole .given .1) (c .verdict-10 .ensures)
 
 returns-3 : tie.Need-returns-3
 returns-3 c = search needs
@@ -33,13 +33,13 @@ returns-3 c = search needs
 returns-4 : tie.Need-returns-4
 returns-4 c = search needs
 
-pub verdict-of-spec : {M : Type 1} → statement M
-verdict-of-spec =
+pub course-verdict-spec : {M : Type 1} → statement M
+course-verdict-spec =
     tie.close
     (tie.spec
     enum-told
     verdict-3-requires
-    enum-known-w
+    enum-known-whole
     verdict-10-requires
     enum-told-2
     enum-told-3

@@ -9,41 +9,41 @@ ghost use Rattle.theory.specs.Sum.{pick};
 ghost use Rattle.theory.specs.Tab.{tab};
 ghost use Rattle.year.specs.Year.{isOpen};
 ghost use Rattle.totals.specs.Parts.{coursesFrom};
-ghost use Rattle.lists.specs.Tops.{topWith, topTo};
+ghost use Rattle.lists.specs.Heaviest.{heaviestWith, heaviestTo};
 
 // The weight at hand, or the course's if that is open in term k and heavier.
-fn heavier(top: u32, c: Course, k: usize) -> u32
+fn heavier(heaviest: u32, c: Course, k: usize) -> u32
     requires { ⌜ k < 16 ⌝ }
-    ensures { λ r. ⌜ r ≡ max top (pick (isOpen c k) (c .weight .0)) ⌝ }
+    ensures { λ r. ⌜ r ≡ max heaviest (pick (isOpen c k) (c .weight .0)) ⌝ }
 {
     let open = totals::is_open(c, k);
-    if open & (top < c.weight.0) {
+    if open & (heaviest < c.weight.0) {
         c.weight.0
     } else {
-        top
+        heaviest
     }
 }
 
 // All sixteen weights, with one course more.
-fn with_course(top: [u32; 16], c: Course) -> [u32; 16]
-    ensures { λ r. ⌜ r ≡ tab 16 (topWith top c) ⌝ }
+fn with_course(heaviest: [u32; 16], c: Course) -> [u32; 16]
+    ensures { λ r. ⌜ r ≡ tab 16 (heaviestWith heaviest c) ⌝ }
 {
     let mut r = [0u32; 16];
     for k in 0..Year::TERMS {
-        r[k] = heavier(top[k], c, k);
+        r[k] = heavier(heaviest[k], c, k);
     }
     r
 }
 
 // All sixteen, over the first n courses.
-pub fn tops(weight: &[u32], list: &[u16], n: usize) -> [u32; 16]
+pub fn heaviest(weight: &[u32], list: &[u16], n: usize) -> [u32; 16]
     requires { ⌜ (n ≤ 64) × (n ≤ length (now weight)) × (n ≤ length (now list)) ⌝ }
-    ensures { λ r. ⌜ r ≡ tab 16 (topTo (coursesFrom (now (weight .entry)) (now (list .entry))) n) ⌝ }
+    ensures { λ r. ⌜ r ≡ tab 16 (heaviestTo (coursesFrom (now (weight .entry)) (now (list .entry))) n) ⌝ }
 {
-    let mut top = [0u32; 16];
+    let mut heaviest = [0u32; 16];
     for i in 0..n {
-        let next = with_course(top, parts::course(weight, list, i));
-        top = next;
+        let next = with_course(heaviest, parts::course(weight, list, i));
+        heaviest = next;
     }
-    top
+    heaviest
 }

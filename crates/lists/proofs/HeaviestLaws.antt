@@ -23,42 +23,42 @@ use Rattle.year.specs.declared.Course.{Course}
 use Rattle.year.specs.declared.Year.{Year}
 use Rattle.rules.specs.Step.{Step}
 use Rattle.rules.proofs.Narrows.{Narrows}
-use Rattle.lists.specs.Tops.{topTo, topWith}
+use Rattle.lists.specs.Heaviest.{heaviestTo, heaviestWith}
 
-pub larger-first : (b : Bool) (top w : ℕ) → b && ltb top w ≡ true → w ≡ max top (pick b w)
-larger-first true top w e = omega (arith, ltb-true top w e)
-larger-first false top w e = absurd (let z : _≡_ {A = Bool} false true = e in let n : _≡_ {A = ℕ} 0 1 = cc in omega arith)
+pub larger-first : (b : Bool) (heaviest w : ℕ) → b && ltb heaviest w ≡ true → w ≡ max heaviest (pick b w)
+larger-first true heaviest w e = omega (arith, ltb-true heaviest w e)
+larger-first false heaviest w e = absurd (let z : _≡_ {A = Bool} false true = e in let n : _≡_ {A = ℕ} 0 1 = cc in omega arith)
 
-pub larger-second : (b : Bool) (top w : ℕ) → b && ltb top w ≡ false → top ≡ max top (pick b w)
-larger-second true top w e = omega (arith, ltb-false top w e)
-larger-second false top w e = omega arith
+pub larger-second : (b : Bool) (heaviest w : ℕ) → b && ltb heaviest w ≡ false → heaviest ≡ max heaviest (pick b w)
+larger-second true heaviest w e = omega (arith, ltb-false heaviest w e)
+larger-second false heaviest w e = omega arith
 
-pub top-more : (cs : List Course) (n j : ℕ) → topTo cs (n + 1) j ≡ max (topTo cs n j) (pick (isOpen (getD cs n zeroCourse) j) (getD cs n zeroCourse .weight .0))
-unfolding topTo
-top-more cs n j = rw add-one
+pub heaviest-more : (cs : List Course) (n j : ℕ) → heaviestTo cs (n + 1) j ≡ max (heaviestTo cs n j) (pick (isOpen (getD cs n zeroCourse) j) (getD cs n zeroCourse .weight .0))
+unfolding heaviestTo
+heaviest-more cs n j = rw add-one
 
-pub tops-more : (cs : List Course) (n : ℕ) → tab 16 (topWith (tab 16 (topTo cs n)) (getD cs n zeroCourse)) ≡ tab 16 (topTo cs (n + 1))
-tops-more cs n =
+pub heaviest-all-more : (cs : List Course) (n : ℕ) → tab 16 (heaviestWith (tab 16 (heaviestTo cs n)) (getD cs n zeroCourse)) ≡ tab 16 (heaviestTo cs (n + 1))
+heaviest-all-more cs n =
     let c = getD cs n zeroCourse in
-    tab-cong 16 (topWith (tab 16 (topTo cs n)) c) (topTo cs (n + 1))
-    (λ k h. ap (λ x. max x (pick (isOpen c k) (c .weight .0))) (getD-tab 16 (topTo cs n) 0 k h) ∙ sym (top-more cs n k))
+    tab-cong 16 (heaviestWith (tab 16 (heaviestTo cs n)) c) (heaviestTo cs (n + 1))
+    (λ k h. ap (λ x. max x (pick (isOpen c k) (c .weight .0))) (getD-tab 16 (heaviestTo cs n) 0 k h) ∙ sym (heaviest-more cs n k))
 
 -- ---- what it bounds
 
-pub top-bounds : (y : Year) (n j i : ℕ) → i < n → openWeight y j i ≤ topTo (y .course) n j
-unfolding topTo
-top-bounds y zero j i h = absurd (omega arith)
-top-bounds y (suc n) j i h = go (ℕ-discrete i n) (λ q. top-bounds y n j i q)
+pub heaviest-bounds : (y : Year) (n j i : ℕ) → i < n → openWeight y j i ≤ heaviestTo (y .course) n j
+unfolding heaviestTo
+heaviest-bounds y zero j i h = absurd (omega arith)
+heaviest-bounds y (suc n) j i h = go (ℕ-discrete i n) (λ q. heaviest-bounds y n j i q)
   where
-    go : Dec (i ≡ n) → (i < n → openWeight y j i ≤ topTo (y .course) n j) → openWeight y j i ≤ topTo (y .course) (suc n) j
+    go : Dec (i ≡ n) → (i < n → openWeight y j i ≤ heaviestTo (y .course) n j) → openWeight y j i ≤ heaviestTo (y .course) (suc n) j
     go (yes e) ih = rw e (omega arith)
     go (no d) ih = omega (arith, ih (omega arith))
 
-pub top-most : (y : Year) (n j : ℕ) → Sound y → n ≤ y .courses → topTo (y .course) n j ≤ 1000
-unfolding topTo
-top-most y zero j s h = omega arith
-top-most y (suc n) j s h =
-    omega (arith, top-most y n j s (omega arith), pick-le (isOpen (courseAt y n) j) (weight y n), s .course-sound n (omega arith) .weight-most)
+pub heaviest-most : (y : Year) (n j : ℕ) → Sound y → n ≤ y .courses → heaviestTo (y .course) n j ≤ 1000
+unfolding heaviestTo
+heaviest-most y zero j s h = omega arith
+heaviest-most y (suc n) j s h =
+    omega (arith, heaviest-most y n j s (omega arith), pick-le (isOpen (courseAt y n) j) (weight y n), s .course-sound n (omega arith) .weight-most)
 
 -- a course that is open in a later year was open before it
 module _ (y : Year) (t : Step) (w : Narrows y t) (i j : ℕ) (h : i < y .courses) where

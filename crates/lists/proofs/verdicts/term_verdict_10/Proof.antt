@@ -1,7 +1,7 @@
 -- The tests are the definition's, in its order.
 use borrow.Author.Needs.{needs}
-use Rattle.lists.proofs.terms.judge_10.Statement.{statement}
-use Rattle.lists.proofs.terms.judge_10.Tie as tie
+use Rattle.lists.proofs.verdicts.term_verdict_10.Statement.{statement}
+use Rattle.lists.proofs.verdicts.term_verdict_10.Tie as tie
 
 add-listed : tie.Need-add-listed
 add-listed c = search needs
@@ -15,5 +15,5 @@ returns-2 c = rw (c .before .before .before .before .before .if1 .left, c .if2 .
 returns-3 : tie.Need-returns-3
 returns-3 c = rw (c .before .before .before .before .before .if1 .left, c .if2 .left)
 
-pub judge-10-spec : {M : Type 1} → statement M
-judge-10-spec = tie.close (tie.spec add-listed returns returns-2 returns-3)
+pub term-verdict-10-spec : {M : Type 1} → statement M
+term-verdict-10-spec = tie.close (tie.spec add-listed returns returns-2 returns-3)

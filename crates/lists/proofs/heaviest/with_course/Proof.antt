@@ -5,15 +5,15 @@ use native.Mathlib.Omega.{arith}
 use lib.ListN.{replicate, set, length-replicate}
 use borrow.Author.Needs.{needs}
 use Rattle.theory.proofs.TabLaws.{fill, fill-more, fill-all}
-use Rattle.lists.specs.Tops.{topWith}
-use Rattle.lists.proofs.tops.with_course.Statement.{statement}
-use Rattle.lists.proofs.tops.with_course.Tie as tie
+use Rattle.lists.specs.Heaviest.{heaviestWith}
+use Rattle.lists.proofs.heaviest.with_course.Statement.{statement}
+use Rattle.lists.proofs.heaviest.with_course.Tie as tie
 
 abbrev Inv-loop : tie.InvT-loop
-Inv-loop c top r₀ k₀ r k = (k ≤ 16) × (r ≡ fill (topWith top c) r₀ k)
+Inv-loop c heaviest r₀ k₀ r k = (k ≤ 16) × (r ≡ fill (heaviestWith heaviest c) r₀ k)
 
 abbrev μ-loop : tie.MeasureT-loop
-μ-loop c top r₀ k₀ r k = 16 - k
+μ-loop c heaviest r₀ k₀ r k = 16 - k
 
 loop-holds : tie.Need-loop-holds Inv-loop μ-loop
 unfolding fill
@@ -44,12 +44,12 @@ loop-again : tie.Need-loop-again Inv-loop μ-loop
 loop-again c =
     let l = c .before .before in
     let b = l .before in
-    (search needs, ap₂ (λ r v. set r (l .loop .k) v) (l .loop .inv .1) (c .heavier .ensures) ∙ sym (fill-more (topWith (b .args .t1) (b .args .c)) (replicate 16 0) (l .loop .k)))
+    (search needs, ap₂ (λ r v. set r (l .loop .k) v) (l .loop .inv .1) (c .heavier .ensures) ∙ sym (fill-more (heaviestWith (b .args .t1) (b .args .c)) (replicate 16 0) (l .loop .k)))
 
 returns : tie.Need-returns Inv-loop μ-loop
 returns c =
     let l = c .before in
-    let f = topWith (l .before .args .t1) (l .before .args .c) in
+    let f = heaviestWith (l .before .args .t1) (l .before .args .c) in
     let is : l .loop .k ≡ 16 = omega arith in
     l .loop .inv .1 ∙ ap (fill f (replicate 16 0)) is ∙ fill-all f (replicate 16 0) 0 16 (length-replicate {A = ℕ} 16 0)
 
