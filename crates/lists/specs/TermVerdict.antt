@@ -22,7 +22,8 @@ use Rattle.lists.specs.declared.Carried.{Carried}
 
 -- rule 3: no open course weighs more than heaviest. With room for that, and enough without it, none has a verdict
 abbrev pub termVerdict3 : Term → Sums → ℕ → TermVerdict
-termVerdict3 t u heaviest = choose (leb (u .fixed .0 + heaviest) (t .high .0) && leb (t .low .0 + heaviest) (u .possible .0)) Nothing ByCredits
+termVerdict3 t u heaviest =
+    choose (leb (u .fixed .0 + heaviest) (t .high .0) && leb (t .low .0 + heaviest) (u .possible .0)) Nothing ByCredits
 
 -- rule 10: where no course is open none has a verdict
 abbrev pub termVerdict10 : Term → Sums → TermVerdict

@@ -1,4 +1,5 @@
-// The weight of the heaviest course that is open in each term. Lists only shrink, so it bounds the open courses of every later year as well.
+// The weight of the heaviest course that is open in each term. Lists only shrink, so it bounds the open courses of every later
+// year as well.
 use totals::parts;
 use year::Course;
 use year::Year;
