@@ -1,4 +1,4 @@
 -- Laws about rounds in a row, and about the state between two rules of a round.
-pub mod Stages
+pub mod StateAt
 pub mod RoundLaws
-pub mod Going
+pub mod BeforeRound

@@ -16,27 +16,27 @@ use Rattle.filter.specs.declared.Answer.the-variants.{NoPlan}
 use Rattle.filter.specs.declared.Filtered.{Filtered}
 
 -- what n rounds leave of the paper's 1,025,985
-abbrev pub left : ℕ → ℕ
-left n = 1025985 - n
+abbrev pub roundsLeft : ℕ → ℕ
+roundsLeft n = 1025985 - n
 
 module _ (y z : Year) (n : ℕ) (few : n ≤ 1025984) where
-  is : left n ≡ suc (1025984 - n)
+  is : roundsLeft n ≡ suc (1025984 - n)
   is = omega arith
 
-  next : left (n + 1) ≡ 1025984 - n
+  next : roundsLeft (n + 1) ≡ 1025984 - n
   next = omega arith
 
-  pub dies : eqb (round z .rule) 0 ≡ false → roundsFrom (left n) y z n ≡ filtered (NoPlan (round z .rule) (n + 1)) y
+  pub round-no-plan : eqb (round z .rule) 0 ≡ false → roundsFrom (roundsLeft n) y z n ≡ filtered (NoPlan (round z .rule) (n + 1)) y
   unfolding roundsFrom
-  dies d = rw (is, d, roundsFrom)
+  round-no-plan d = rw (is, d, roundsFrom)
 
-  pub rests : eqb (round z .rule) 0 ≡ true → round z .altered ≡ false → roundsFrom (left n) y z n ≡ filtered (atRest (round z .year) (n + 1)) (round z .year)
+  pub round-at-rest : eqb (round z .rule) 0 ≡ true → round z .altered ≡ false → roundsFrom (roundsLeft n) y z n ≡ filtered (atRest (round z .year) (n + 1)) (round z .year)
   unfolding roundsFrom
-  rests d a = rw (is, d, a, roundsFrom)
+  round-at-rest d a = rw (is, d, a, roundsFrom)
 
-  pub goes-on : eqb (round z .rule) 0 ≡ true → round z .altered ≡ true → roundsFrom (left n) y z n ≡ roundsFrom (left (n + 1)) y (round z .year) (n + 1)
+  pub round-alters : eqb (round z .rule) 0 ≡ true → round z .altered ≡ true → roundsFrom (roundsLeft n) y z n ≡ roundsFrom (roundsLeft (n + 1)) y (round z .year) (n + 1)
   unfolding roundsFrom
-  goes-on d a = rw (is, next, d, a, roundsFrom)
+  round-alters d a = rw (is, next, d, a, roundsFrom)
 
 -- an altering round leaves less to narrow
 pub round-falls : (z : Year) → Sound z → round z .altered ≡ true → leeway (round z .year) < leeway z

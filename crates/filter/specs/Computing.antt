@@ -1,24 +1,8 @@
--- All that a filtering is computed by, under one name: `unfolding computing` lets a closed filtering compute.
-use Rattle.theory.specs.Fold.{fold}
-use Rattle.theory.specs.Sum.{sum}
-use Rattle.theory.specs.Tests.{any, all}
-use Rattle.theory.specs.Tab.{tab}
-use Rattle.theory.specs.Others.{others}
-use Rattle.theory.specs.Order.{rank, orderTo, keep}
-use Rattle.theory.specs.Walk.{walk}
-use Rattle.theory.specs.Packing.{share}
+-- Inner: all that a filtering is computed by, under one name. `unfolding computing` lets a closed filtering compute.
 use Rattle.year.specs.Sound.{isSound}
-use Rattle.year.specs.Sums.{fixedCredits, openCredits, fixedCount, openCount, allCredits, isPlaced, allPlaced}
-use Rattle.year.specs.Tight.{creditsWithin, countsWithin}
-use Rattle.theory.specs.Largest.{largest}
-use Rattle.rules.specs.Step.{outcome}
-use Rattle.rules.specs.Bounds.{rule1, rule2, rule4, rule5}
-use Rattle.rules.specs.Lists.{verdict3, rule3Course, rule3, verdict10, rule10Course, rule10}
-use Rattle.rules.specs.Spares.{spares, blocked, charged, walkOf, down, up, rule6, rule7, rule8, rule9}
-use Rattle.rules.specs.Packing.{shares, rule11}
-use Rattle.rules.specs.Round.{round}
+use Rattle.rules.specs.Computing.{computing as computingRound}
 use Rattle.filter.specs.Filter.{roundsFrom, filterOf}
 
 unfoldable pub computing : Unit {0}
-unfolding sum any all tab others rank orderTo keep walk share isSound fixedCredits openCredits fixedCount openCount allCredits isPlaced allPlaced creditsWithin countsWithin largest outcome fold rule1 rule2 rule4 rule5 verdict3 rule3Course rule3 verdict10 rule10Course rule10 spares blocked charged walkOf down up rule6 rule7 rule8 rule9 shares rule11 round roundsFrom filterOf
+unfolding computingRound isSound roundsFrom filterOf
 computing = tt

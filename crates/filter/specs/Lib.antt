@@ -4,4 +4,4 @@ pub mod Halves
 pub mod Numbers
 pub mod Computing
 pub mod Examples
-pub mod Larger
+pub mod LargerExample

@@ -49,6 +49,7 @@ fn first_half(s: State, weight: &[u32], all: u32) -> State
     ensures { λ r. ⌜ r ≡ held (firstHalf (yearIn (now (weight .entry)) s)) ⌝ }
 {
     let r2 = bounds::rules_1_2(s, weight, all);
+    // for speed alone: rules 3 to 5 would let it pass
     if r2.rule != 0 {
         return r2;
     }
@@ -65,9 +66,6 @@ fn second_half(s: State, weight: &[u32], o: Orders) -> State
     ensures { λ r. ⌜ r ≡ held (secondHalf (stepIn (now (weight .entry)) s)) ⌝ }
 {
     let r9 = walks::rules_6_to_9(s, weight, o);
-    if r9.rule != 0 {
-        return r9;
-    }
     let r10 = lists::rule_10(r9, weight);
     packing::rule_11(r10, weight)
 }
@@ -86,42 +84,47 @@ fn orders_by(o: Orders, round: u32, weight: &[u32], n: usize) -> Orders
     o
 }
 
+// What a filtering hands back: its answer beside a year.
+fn handed_back(a: Answer, z: Year) -> Filtered
+    ensures { λ r. ⌜ r ≡ filtered a z ⌝ }
+{
+    Filtered { answer: a, year: z }
+}
+
 // The answer where a rule found no plan in round n, beside the year that was given.
 fn no_plan(y: Year, rule: u32, n: u32) -> Filtered
     ensures { λ r. ⌜ r ≡ filtered (NoPlan rule n) y ⌝ }
 {
-    Filtered {
-        answer: Answer::NoPlan(rule, n),
-        year: y,
-    }
+    handed_back(Answer::NoPlan(rule, n), y)
 }
 
-// The answer and the year of a state at rest after n rounds.
-fn rested(s: State, weight: &[u32], n: u32) -> Filtered
+// The year of a state.
+fn year_in(s: State, weight: &[u32]) -> Year
     requires { ⌜ length (now weight) ≡ 64 ⌝ }
     requires { ⌜ Sound (yearIn (now weight) s) ⌝ }
     requires { ⌜ s ≡ held (stepIn (now weight) s) ⌝ }
-    ensures { λ r. ⌜ r ≡ filtered (atRest (yearIn (now (weight .entry)) s) n) (yearIn (now (weight .entry)) s) ⌝ }
+    ensures { λ r. ⌜ r ≡ yearIn (now (weight .entry)) s ⌝ }
 {
     let term = s.term;
     let list = s.list;
     let course = parts::together(weight, &list, s.courses);
-    let z = Year {
+    Year {
         terms: s.terms,
         courses: s.courses,
         term: term,
         course: course,
-    };
+    }
+}
+
+// The answer of a year at rest after n rounds.
+fn at_rest(z: Year, n: u32) -> Answer
+    requires { ⌜ Sound z ⌝ }
+    ensures { λ r. ⌜ r ≡ atRest z n ⌝ }
+{
     if totals::all_placed(z) {
-        return Filtered {
-            answer: Answer::Settled(n),
-            year: z,
-        };
+        return Answer::Settled(n);
     }
-    Filtered {
-        answer: Answer::Open(n),
-        year: z,
-    }
+    Answer::Open(n)
 }
 
 // Rounds until one alters nothing or finds no plan.
@@ -150,7 +153,8 @@ pub fn run(y: Year) -> Filtered
             return no_plan(y, s.rule, n);
         }
         if !s.altered {
-            return rested(s, &weight, n);
+            let z = year_in(s, &weight);
+            return handed_back(at_rest(z, n), z);
         }
         s.altered = false;
     }

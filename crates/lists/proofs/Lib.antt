@@ -1,6 +1,6 @@
 -- Laws about the courses of a term and about the terms, for the proofs here.
 pub mod SumsAfter
 pub mod CourseLaws
-pub mod TopLaws
+pub mod HeaviestLaws
 pub mod TermLaws
 pub mod OverLaws

@@ -1,14 +1,15 @@
 -- Rules on lists over the terms of a year: what stays as it was, and a turn of the code's loop.
 use Prim.Native.Nat.{ℕ, _+_, _≤_, _<_}
-use mathlib.Core.Bool.{false, _&&_, _||_, or-false}
+use mathlib.Core.Bool.{Bool, true, false, _&&_, _||_, or-false}
 use mathlib.Core.List.{List}
 use mathlib.Core.Path.{_≡_, refl, sym, ap, ap₂, _∙_}
 use native.Mathlib.Nat.{le-refl}
 use native.Mathlib.Omega.{arith}
 use lib.Dec.{eqb, ltb}
 use lib.ListN.{getD}
+use borrow.Author.Tests.{eqb-true, ne-eqb}
 use Rattle.theory.specs.Choice.{choose}
-use Rattle.theory.proofs.FoldLaws.{fold-more, fold-keeps, fold-finish}
+use Rattle.theory.proofs.FoldLaws.{fold-more, fold-keeps, fold-finish, fold-none}
 use Rattle.theory.specs.Tab.{tab}
 use Rattle.theory.proofs.TabLaws.{getD-tab}
 use Rattle.year.specs.Year.{zeroTerm, termAt, weight, lowCredits}
@@ -26,37 +27,37 @@ use Rattle.rules.proofs.Narrows.{Narrows, narrows-rest, narrows-over}
 use Rattle.rules.proofs.Passes.{over-joined}
 use Rattle.rules.proofs.Steps.{narrows-3, narrows-10}
 use Rattle.frame.proofs.StateLaws.{year-held, step-held, sound-held, held-self, sums-held}
-use Rattle.lists.specs.Judge.{judge3, judge10, judgeTerm}
-use Rattle.lists.specs.Tops.{topAt}
-use Rattle.lists.specs.declared.Judge.{Judge}
-use Rattle.lists.specs.declared.Judge.the-variants.{Rests, Credits, Counts, Fails}
+use Rattle.lists.specs.TermVerdict.{termVerdict3, termVerdict10, termJudged}
+use Rattle.lists.specs.Heaviest.{heaviestAt}
+use Rattle.lists.specs.declared.TermVerdict.{TermVerdict}
+use Rattle.lists.specs.declared.TermVerdict.the-variants.{Nothing, ByCredits, ByCounts, NoPlan}
 use Rattle.lists.proofs.CourseLaws.{onward}
-use Rattle.lists.proofs.TopLaws.{top-most, top-bounds, open-less}
-use Rattle.lists.proofs.TermLaws.{step-is, weights-stay, rests-is, credits-is, judged-3, judged-10}
+use Rattle.lists.proofs.HeaviestLaws.{heaviest-most, heaviest-bounds, open-less}
+use Rattle.lists.proofs.TermLaws.{step-is, weights-stay, nothing-is, credits-is, rule-3-is, rule-10-is}
 
 -- ---- a rule on lists
 
--- it leaves a narrows year, and the terms as they are
+-- it leaves a sound year that is no wider, and the terms as they are
 record OnLists (rule : Year → ℕ → Step) : Type 0 where
   pub narrows : (y : Year) (j : ℕ) → Sound y → j < y .terms → Narrows y (rule y j)
   pub terms : (y : Year) (j : ℕ) → rule y j .year .term ≡ y .term
 
-terms-judged : (w : Judge) (y : Year) (j : ℕ) → judgeTerm w y j .year .term ≡ y .term
-terms-judged Rests y j = onward Rests j y (y .courses) .term-same
-terms-judged Credits y j = onward Credits j y (y .courses) .term-same
-terms-judged (Counts p q) y j = onward (Counts p q) j y (y .courses) .term-same
-terms-judged Fails y j = refl
+terms-judged : (w : TermVerdict) (y : Year) (j : ℕ) → termJudged w y j .year .term ≡ y .term
+terms-judged Nothing y j = onward Nothing j y (y .courses) .term-same
+terms-judged ByCredits y j = onward ByCredits j y (y .courses) .term-same
+terms-judged (ByCounts p q) y j = onward (ByCounts p q) j y (y .courses) .term-same
+terms-judged (NoPlan r) y j = refl
 
 lists-3 : OnLists rule3
 lists-3 = record {
   narrows = λ y j s h. narrows-3 y j s h;
-  terms = λ y j. ap (λ (s : Step). s .year .term) (credits-is y j) ∙ terms-judged Credits y j;
+  terms = λ y j. ap (λ (s : Step). s .year .term) (credits-is y j) ∙ terms-judged ByCredits y j;
 }
 
 lists-10 : OnLists rule10
 lists-10 = record {
   narrows = λ y j s h. narrows-10 y j s h;
-  terms = λ y j. ap (λ (s : Step). s .year .term) (judged-10 y j) ∙ terms-judged (judge10 (termAt y j) (sumsAt y j)) y j;
+  terms = λ y j. ap (λ (s : Step). s .year .term) (rule-10-is y j) ∙ terms-judged (termVerdict10 (termAt y j) (sumsAt y j)) y j;
 }
 
 -- ---- over the terms
@@ -64,13 +65,25 @@ lists-10 = record {
 terms-over : (f : Year → ℕ → Step) → OnLists f → (y : Year) (n : ℕ) → overTo f (live y) n .year .term ≡ y .term
 terms-over f l y n = fold-keeps goes (then f) (live y) (λ z. z .year .term ≡ y .term) n (λ z k h e q. l .terms (z .year) k ∙ q) refl
 
+-- where no plan was found before the first term, all of them are left alone
+pub passes : (rule : Year → ℕ → Step) (s : Step) → (s .rule ≡ 0 → ⊥) → overTerms rule s ≡ s
+passes rule s d = fold-none goes (then rule) s (ne-eqb (s .rule) 0 d) (s .year .terms)
+
+-- where none is found at term j, none was before the first
+went-on : (rule : Year → ℕ → Step) (s : Step) (j : ℕ) → overTo rule s j .rule ≡ 0 → s .rule ≡ 0
+went-on rule s j e = go (eqb (s .rule) 0) refl
+  where
+    go : (b : Bool) → eqb (s .rule) 0 ≡ b → s .rule ≡ 0
+    go true q = eqb-true (s .rule) 0 q
+    go false q = ap (λ (x : Step). x .rule) (sym (fold-none goes (then rule) s q j)) ∙ e
+
 -- ---- a turn of the code's loop: z is the state at term j, from s on
 
--- w is what the term is judged by
-pub record TermTurn (rule : Year → ℕ → Step) (ws : List ℕ) (s z : State) (j : ℕ) (w : Judge) : Type 0 where
+-- w is what the rule says of the term
+pub record TermTurn (rule : Year → ℕ → Step) (ws : List ℕ) (s z : State) (j : ℕ) (w : TermVerdict) : Type 0 where
   pub ready : (j < z .terms) × (Sound (yearIn ws z)) × (z ≡ held (stepIn ws z)) × (z .rule ≡ 0)
-  pub rests : w ≡ Rests → z ≡ held (overTo rule (stepIn ws s) (j + 1))
-  pub goes-on : held (next (judgeTerm w) (stepIn ws z) j) ≡ held (overTo rule (stepIn ws s) (j + 1))
+  pub says-nothing : w ≡ Nothing → z ≡ held (overTo rule (stepIn ws s) (j + 1))
+  pub is-judged : held (next (termJudged w) (stepIn ws z) j) ≡ held (overTo rule (stepIn ws s) (j + 1))
 
 module _ (rule : Year → ℕ → Step) (l : OnLists rule) (ws : List ℕ) (s : State) (sound : Sound (yearIn ws s)) (alive : s .rule ≡ 0)
     (j : ℕ) (h : j < s .terms) (z : State) (inv : z ≡ held (overTo rule (stepIn ws s) j)) where
@@ -113,14 +126,14 @@ module _ (rule : Year → ℕ → Step) (l : OnLists rule) (ws : List ℕ) (s : 
   same : held (next rule (stepIn ws z) j) ≡ held (overTo rule (stepIn ws s) (j + 1))
   same = ap (λ x. held (next rule x j)) step-at ∙ ap held (sym (fold-more goes (then rule) (stepIn ws s) j))
 
-  turn-at : z .rule ≡ 0 → (w : Judge) → rule (yearIn ws z) j ≡ judgeTerm w (yearIn ws z) j → TermTurn rule ws s z j w
+  turn-at : z .rule ≡ 0 → (w : TermVerdict) → rule (yearIn ws z) j ≡ termJudged w (yearIn ws z) j → TermTurn rule ws s z j w
   turn-at going w is = record {
     ready = (omega (arith, ap (λ (y : Year). y .terms) year-at, narrows-at .year .terms-same), sound-at, held-at, going);
-    rests = λ q.
-        let still : rule (yearIn ws z) j ≡ live (yearIn ws z) = is ∙ ap (λ v. judgeTerm v (yearIn ws z) j) q ∙ rests-is (yearIn ws z) j in
+    says-nothing = λ q.
+        let still : rule (yearIn ws z) j ≡ live (yearIn ws z) = is ∙ ap (λ v. termJudged v (yearIn ws z) j) q ∙ nothing-is (yearIn ws z) j in
         let quiet : stepIn ws z ≡ next rule (stepIn ws z) j = rw (going, still) (step-is refl (sym (or-false (z .altered))) refl) in
         held-at ∙ ap held quiet ∙ same;
-    goes-on = ap (λ (x : Step). held (choose (eqb (z .rule) 0) (step (x .year) (z .altered || x .altered) (x .rule)) (stepIn ws z))) (sym is) ∙ same;
+    is-judged = ap (λ (x : Step). held (choose (eqb (z .rule) 0) (step (x .year) (z .altered || x .altered) (x .rule)) (stepIn ws z))) (sym is) ∙ same;
   }
 
 -- ---- rule 3
@@ -129,38 +142,41 @@ module _ (rule : Year → ℕ → Step) (l : OnLists rule) (ws : List ℕ) (s : 
 alive-3 : (s : Step) → s .rule ≡ 0 → (n : ℕ) → overTo rule3 s n .rule ≡ 0
 alive-3 s z n =
     fold-keeps goes (then rule3) s (λ t. t .rule ≡ 0) n
-    (λ t k h e q. ap (λ (x : Step). x .rule) (credits-is (t .year) k) ∙ onward Credits k (t .year) (t .year .courses) .goes-on)
+    (λ t k h e q. ap (λ (x : Step). x .rule) (credits-is (t .year) k) ∙ onward ByCredits k (t .year) (t .year .courses) .goes-on)
     z
 
 module _ (ws : List ℕ) (s : State) (sound : Sound (yearIn ws s)) (alive : s .rule ≡ 0) (j : ℕ) (h : j < s .terms) (z : State) (inv : z ≡ held (overTo rule3 (stepIn ws s) j))
-    (top : List ℕ) (e : top ≡ tab 16 (topAt (yearIn ws s))) where
-  top-at : getD top j 0 ≡ topAt (yearIn ws s) j
-  top-at = rw e (getD-tab 16 (topAt (yearIn ws s)) 0 j (omega (arith, sound)))
+    (heaviest : List ℕ) (e : heaviest ≡ tab 16 (heaviestAt (yearIn ws s))) where
+  heaviest-at : getD heaviest j 0 ≡ heaviestAt (yearIn ws s) j
+  heaviest-at = rw e (getD-tab 16 (heaviestAt (yearIn ws s)) 0 j (omega (arith, sound)))
 
-  pub fits-3 : (getD (z .sums) j noSums .fixed .0 + getD top j 0 < 100000) × (lowCredits (yearIn ws s) j + getD top j 0 < 100000)
+  pub fits-3 : (getD (z .sums) j noSums .fixed .0 + getD heaviest j 0 < 100000) × (lowCredits (yearIn ws s) j + getD heaviest j 0 < 100000)
   unfolding sumsAt fixedCredits
   fits-3 =
       let y = yearIn ws z in
       let a = sound-at rule3 lists-3 ws s sound alive j h z inv in
       let p : getD (z .sums) j noSums .fixed .0 ≡ fixedCredits y j = ap (λ (u : Sums). u .fixed .0) (sums-at rule3 lists-3 ws s sound alive j h z inv) in
-      let top-small = top-most (yearIn ws s) (s .courses) j sound (le-refl (s .courses)) in
-      (omega (arith, top-at, possible-le y j, all-credits-le y a, a .courses-most), omega (arith, top-at, sound .term-sound j h))
+      let heaviest-small = heaviest-most (yearIn ws s) (s .courses) j sound (le-refl (s .courses)) in
+      (omega (arith, heaviest-at, possible-le y j, all-credits-le y a, a .courses-most), omega (arith, heaviest-at, sound .term-sound j h))
 
-  pub turn-3 : (w : Judge) → w ≡ judge3 (termAt (yearIn ws s) j) (getD (z .sums) j noSums) (getD top j 0) → TermTurn rule3 ws s z j w
+  pub turn-3 : (w : TermVerdict) → w ≡ termVerdict3 (termAt (yearIn ws s) j) (getD (z .sums) j noSums) (getD heaviest j 0) → TermTurn rule3 ws s z j w
   turn-3 w q =
       let v = narrows-at rule3 lists-3 ws s sound alive j h z inv in
       let y = year-at rule3 lists-3 ws s sound alive j h z inv in
-      let bound : (i : ℕ) → i < z .courses → openWeight (yearIn ws z) j i ≤ getD top j 0 = λ i m.
+      let bound : (i : ℕ) → i < z .courses → openWeight (yearIn ws z) j i ≤ getD heaviest j 0 = λ i m.
       let n : i < s .courses = omega (arith, v .year .courses-same, ap (λ (x : Year). x .courses) y) in
-      omega (arith, ap (λ (x : Year). openWeight x j i) y, top-at, open-less (yearIn ws s) _ v i j n, top-bounds (yearIn ws s) (s .courses) j i n) in
-      let read : w ≡ judge3 (termAt (yearIn ws z) j) (sumsAt (yearIn ws z) j) (getD top j 0) =
-      q ∙ ap₂ (λ t u. judge3 t u (getD top j 0)) (term-at rule3 lists-3 ws s sound alive j h z inv) (sums-at rule3 lists-3 ws s sound alive j h z inv) in
+      omega (arith, ap (λ (x : Year). openWeight x j i) y, heaviest-at, open-less (yearIn ws s) _ v i j n, heaviest-bounds (yearIn ws s) (s .courses) j i n) in
+      let read : w ≡ termVerdict3 (termAt (yearIn ws z) j) (sumsAt (yearIn ws z) j) (getD heaviest j 0) =
+      q ∙ ap₂ (λ t u. termVerdict3 t u (getD heaviest j 0)) (term-at rule3 lists-3 ws s sound alive j h z inv) (sums-at rule3 lists-3 ws s sound alive j h z inv) in
       turn-at rule3 lists-3 ws s sound alive j h z inv (ap (λ (x : State). x .rule) inv ∙ alive-3 (stepIn ws s) alive j) w
-      (judged-3 (yearIn ws z) j (getD top j 0) bound ∙ ap (λ x. judgeTerm x (yearIn ws z) j) (sym read))
+      (rule-3-is (yearIn ws z) j (getD heaviest j 0) bound ∙ ap (λ x. termJudged x (yearIn ws z) j) (sym read))
 
 -- ---- rule 10
 
-module _ (ws : List ℕ) (s : State) (sound : Sound (yearIn ws s)) (alive : s .rule ≡ 0) (j : ℕ) (h : j < s .terms) (z : State) (inv : z ≡ held (overTo rule10 (stepIn ws s) j)) where
+module _ (ws : List ℕ) (s : State) (sound : Sound (yearIn ws s)) (j : ℕ) (h : j < s .terms) (z : State) (inv : z ≡ held (overTo rule10 (stepIn ws s) j)) (going : z .rule ≡ 0) where
+  alive : s .rule ≡ 0
+  alive = went-on rule10 (stepIn ws s) j (sym (ap (λ (x : State). x .rule) inv) ∙ going)
+
   pub fits-10 : getD (z .sums) j noSums .placed .0 + getD (z .sums) j noSums .free .0 < 100
   unfolding sumsAt fixedCount openCount
   fits-10 =
@@ -171,11 +187,11 @@ module _ (ws : List ℕ) (s : State) (sound : Sound (yearIn ws s)) (alive : s .r
       let f : getD (z .sums) j noSums .free .0 ≡ openCount y j = ap (λ (u : Sums). u .free .0) u in
       omega (arith, counts-le y j, a .courses-most)
 
-  pub turn-10 : z .rule ≡ 0 → (w : Judge) → w ≡ judge10 (termAt (yearIn ws s) j) (getD (z .sums) j noSums) → TermTurn rule10 ws s z j w
-  turn-10 going w q =
-      let read : w ≡ judge10 (termAt (yearIn ws z) j) (sumsAt (yearIn ws z) j) =
-      q ∙ ap₂ judge10 (term-at rule10 lists-10 ws s sound alive j h z inv) (sums-at rule10 lists-10 ws s sound alive j h z inv) in
-      turn-at rule10 lists-10 ws s sound alive j h z inv going w (judged-10 (yearIn ws z) j ∙ ap (λ x. judgeTerm x (yearIn ws z) j) (sym read))
+  pub turn-10 : (w : TermVerdict) → w ≡ termVerdict10 (termAt (yearIn ws s) j) (getD (z .sums) j noSums) → TermTurn rule10 ws s z j w
+  turn-10 w q =
+      let read : w ≡ termVerdict10 (termAt (yearIn ws z) j) (sumsAt (yearIn ws z) j) =
+      q ∙ ap₂ termVerdict10 (term-at rule10 lists-10 ws s sound alive j h z inv) (sums-at rule10 lists-10 ws s sound alive j h z inv) in
+      turn-at rule10 lists-10 ws s sound alive j h z inv going w (rule-10-is (yearIn ws z) j ∙ ap (λ x. termJudged x (yearIn ws z) j) (sym read))
 
 -- ---- where the loops end
 

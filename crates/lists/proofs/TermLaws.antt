@@ -1,4 +1,4 @@
--- A term of rules 3 and 10 as the code judges it.
+-- A term of rules 3 and 10 under its verdict: what the code makes of it is what the rule does there.
 use Prim.Native.Nat.{ℕ, zero, suc, _+_, _-_, _^_, _≤_, _<_}
 use mathlib.Core.Bool.{Bool, true, false, _&&_, _||_, or-true, or-false}
 use mathlib.Core.List.{List}
@@ -31,10 +31,10 @@ use Rattle.frame.specs.declared.State.{State}
 use Rattle.rules.specs.declared.Verdict.the-variants.{Stays}
 use Rattle.rules.proofs.Narrows.{Narrows, narrows-rest, narrows-over}
 use Rattle.frame.proofs.StateLaws.{sums-in}
-use Rattle.lists.specs.Judge.{keptOf, judgeCourse, judge3, judge10, judgeTerm}
-use Rattle.lists.specs.declared.Judge.{Judge}
-use Rattle.lists.specs.declared.Judge.the-variants.{Rests, Credits, Counts, Fails}
-use Rattle.lists.specs.declared.Kept.{Kept}
+use Rattle.lists.specs.TermVerdict.{carriedOf, courseJudged, termVerdict3, termVerdict10, termJudged}
+use Rattle.lists.specs.declared.TermVerdict.{TermVerdict}
+use Rattle.lists.specs.declared.TermVerdict.the-variants.{Nothing, ByCredits, ByCounts, NoPlan}
+use Rattle.lists.specs.declared.Carried.{Carried}
 use Rattle.lists.proofs.CourseLaws.{lawful, Onward, onward}
 
 -- ---- states and steps are their parts
@@ -51,44 +51,44 @@ weights-stay ws s p v i h = sym (v .year .weight-same i ∙ ap (λ (c : Course).
 
 -- ---- the code of one term
 
-courses-of : (w : Judge) (y : Year) (j : ℕ) → (w ≡ Fails → ⊥) → judgeTerm w y j ≡ overCourses (judgeCourse w j) (live y)
-courses-of Rests y j d = refl
-courses-of Credits y j d = refl
-courses-of (Counts full needed) y j d = refl
-courses-of Fails y j d = absurd (d refl)
+courses-of : (w : TermVerdict) (y : Year) (j : ℕ) → ((r : ℕ) → w ≡ NoPlan r → ⊥) → termJudged w y j ≡ overCourses (courseJudged w j) (live y)
+courses-of Nothing y j d = refl
+courses-of ByCredits y j d = refl
+courses-of (ByCounts full needed) y j d = refl
+courses-of (NoPlan r) y j d = absurd (d r refl)
 
-module _ (ws : List ℕ) (s : State) (w : Judge) (j : ℕ) (h : j < s .terms) (sound : Sound (yearIn ws s)) (e : s ≡ held (stepIn ws s)) (z : s .rule ≡ 0) where
+module _ (ws : List ℕ) (s : State) (w : TermVerdict) (j : ℕ) (h : j < s .terms) (sound : Sound (yearIn ws s)) (e : s ≡ held (stepIn ws s)) (z : s .rule ≡ 0) where
   abbrev after : State
-  after = held (next (judgeTerm w) (stepIn ws s) j)
+  after = held (next (termJudged w) (stepIn ws s) j)
 
-  pub fails : w ≡ Fails → record { terms = s .terms; courses = s .courses; term = s .term; list = s .list; sums = s .sums; altered = s .altered; rule = 10 } ≡ after
-  fails q =
+  pub no-plan : (r : ℕ) → w ≡ NoPlan r → record { terms = s .terms; courses = s .courses; term = s .term; list = s .list; sums = s .sums; altered = s .altered; rule = r } ≡ after
+  no-plan r q =
       rw (q, z)
       (state-is refl refl refl (ap (λ (t : State). t .list) e) (ap (λ (t : State). t .sums) e) (sym (or-false (s .altered))) refl)
 
   -- k after the courses of the term
-  module _ (d : w ≡ Fails → ⊥) (k : Kept) (q : k ≡ keptOf (overCourses (judgeCourse w j) (live (yearIn ws s))) j) where
+  module _ (d : (r : ℕ) → w ≡ NoPlan r → ⊥) (k : Carried) (q : k ≡ carriedOf (overCourses (courseJudged w j) (live (yearIn ws s))) j) where
     abbrev t : Step
-    t = overCourses (judgeCourse w j) (live (yearIn ws s))
+    t = overCourses (courseJudged w j) (live (yearIn ws s))
 
     o : Onward (yearIn ws s) (s .courses) t
     o = onward w j (yearIn ws s) (s .courses)
 
     narrows : Narrows (yearIn ws s) t
     narrows =
-        narrows-over (judgeCourse w j) (s .courses) (yearIn ws s) (live (yearIn ws s)) (lawful w (s .terms) (s .courses) j h) (narrows-rest (yearIn ws s) 0 sound) (s .courses) (le-refl (s .courses))
+        narrows-over (courseJudged w j) (s .courses) (yearIn ws s) (live (yearIn ws s)) (lawful w (s .terms) (s .courses) j h) (narrows-rest (yearIn ws s) 0 sound) (s .courses) (le-refl (s .courses))
 
     list : k .list ≡ listsOf (t .year)
-    list = ap (λ (z : Kept). z .list) q
+    list = ap (λ (z : Carried). z .list) q
 
     mark : k .altered ≡ t .altered
-    mark = ap (λ (z : Kept). z .altered) q
+    mark = ap (λ (z : Carried). z .altered) q
 
     after-is : after ≡ held (joined (stepIn ws s) t)
     after-is = rw (z, courses-of w (yearIn ws s) j d)
 
-    pub rests : k .altered ≡ false → s ≡ after
-    rests a =
+    pub unaltered : k .altered ≡ false → s ≡ after
+    unaltered a =
         let still : t .altered ≡ false = sym mark ∙ a in
         e
         ∙ ap held (step-is (sym (o .quiet still)) (sym (or-false (s .altered)) ∙ ap (λ b. s .altered || b) (sym still)) (z ∙ sym (o .goes-on)))
@@ -123,49 +123,49 @@ module _ (ws : List ℕ) (s : State) (w : Judge) (j : ℕ) (h : j < s .terms) (s
         (sym (or-true (s .altered)) ∙ ap (λ b. s .altered || b) (sym a ∙ mark)) (sym (o .goes-on))
         ∙ sym after-is
 
--- ---- rules 3 and 10 at a term, as it is judged
+-- ---- rules 3 and 10 at a term, under its verdict
 
 -- where no course has a verdict nothing is done
-over-rests : (f : Year → ℕ → Step) (y : Year) (n : ℕ) → ((i : ℕ) → i < n → f y i ≡ live y) → overTo f (live y) n ≡ live y
+over-still : (f : Year → ℕ → Step) (y : Year) (n : ℕ) → ((i : ℕ) → i < n → f y i ≡ live y) → overTo f (live y) n ≡ live y
 unfolding fold
-over-rests f y zero h = refl
-over-rests f y (suc n) h = ap (λ s. next f s n) (over-rests f y n (λ i l. h i (omega arith))) ∙ rw (h n (omega arith))
+over-still f y zero h = refl
+over-still f y (suc n) h = ap (λ s. next f s n) (over-still f y n (λ i l. h i (omega arith))) ∙ rw (h n (omega arith))
 
-pub rests-is : (y : Year) (j : ℕ) → judgeTerm Rests y j ≡ live y
-unfolding judgeCourse
-rests-is y j = over-rests (judgeCourse Rests j) y (y .courses) (λ i l. refl)
+pub nothing-is : (y : Year) (j : ℕ) → termJudged Nothing y j ≡ live y
+unfolding courseJudged
+nothing-is y j = over-still (courseJudged Nothing j) y (y .courses) (λ i l. refl)
 
-pub credits-is : (y : Year) (j : ℕ) → rule3 y j ≡ judgeTerm Credits y j
-unfolding rule3 rule3Course judgeCourse
+pub credits-is : (y : Year) (j : ℕ) → rule3 y j ≡ termJudged ByCredits y j
+unfolding rule3 rule3Course courseJudged
 credits-is y j = refl
 
--- no open course weighs more than top: with room for top, and enough without it, none has a verdict
-idle : (y : Year) (j top : ℕ) → ((i : ℕ) → i < y .courses → openWeight y j i ≤ top) → fixedCredits y j + top ≤ highCredits y j → lowCredits y j + top ≤ possibleCredits y j
+-- no open course weighs more than heaviest: with room for heaviest, and enough without it, none has a verdict
+credits-nothing : (y : Year) (j heaviest : ℕ) → ((i : ℕ) → i < y .courses → openWeight y j i ≤ heaviest) → fixedCredits y j + heaviest ≤ highCredits y j → lowCredits y j + heaviest ≤ possibleCredits y j
     → rule3 y j ≡ live y
 unfolding rule3 rule3Course verdict3
-idle y j top b h l = over-rests (rule3Course j) y (y .courses) (λ i m. at i (b i m) (isOpen (courseAt y i) j) refl)
+credits-nothing y j heaviest b h l = over-still (rule3Course j) y (y .courses) (λ i m. at i (b i m) (isOpen (courseAt y i) j) refl)
   where
-    at : (i : ℕ) → openWeight y j i ≤ top → (o : Bool) → isOpen (courseAt y i) j ≡ o → rule3Course j y i ≡ live y
+    at : (i : ℕ) → openWeight y j i ≤ heaviest → (o : Bool) → isOpen (courseAt y i) j ≡ o → rule3Course j y i ≡ live y
     at i w true e =
-        let light : weight y i ≤ top = rw e at w in
+        let light : weight y i ≤ heaviest = rw e at w in
         rw (e, le-ltb (highCredits y j) (fixedCredits y j + weight y i) (omega arith), le-ltb (possibleCredits y j - weight y i) (lowCredits y j) (omega arith))
     at i w false e = rw e
 
-pub judged-3 : (y : Year) (j top : ℕ) → ((i : ℕ) → i < y .courses → openWeight y j i ≤ top) → rule3 y j ≡ judgeTerm (judge3 (termAt y j) (sumsAt y j) top) y j
+pub rule-3-is : (y : Year) (j heaviest : ℕ) → ((i : ℕ) → i < y .courses → openWeight y j i ≤ heaviest) → rule3 y j ≡ termJudged (termVerdict3 (termAt y j) (sumsAt y j) heaviest) y j
 unfolding sumsAt fixedCredits openCredits
-judged-3 y j top b = go (leb (fixedCredits y j + top) (highCredits y j)) (leb (lowCredits y j + top) (possibleCredits y j)) refl refl
+rule-3-is y j heaviest b = go (leb (fixedCredits y j + heaviest) (highCredits y j)) (leb (lowCredits y j + heaviest) (possibleCredits y j)) refl refl
   where
-    go : (p q : Bool) → leb (fixedCredits y j + top) (highCredits y j) ≡ p → leb (lowCredits y j + top) (possibleCredits y j) ≡ q
-        → rule3 y j ≡ judgeTerm (choose (p && q) Rests Credits) y j
-    go true true e f = idle y j top b (leb-true _ _ e) (leb-true _ _ f) ∙ sym (rests-is y j)
+    go : (p q : Bool) → leb (fixedCredits y j + heaviest) (highCredits y j) ≡ p → leb (lowCredits y j + heaviest) (possibleCredits y j) ≡ q
+        → rule3 y j ≡ termJudged (choose (p && q) Nothing ByCredits) y j
+    go true true e f = credits-nothing y j heaviest b (leb-true _ _ e) (leb-true _ _ f) ∙ sym (nothing-is y j)
     go true false e f = credits-is y j
     go false q e f = credits-is y j
 
 -- ---- rule 10: a term that is neither full nor needs all leaves every course, and so does one where none is open
 
-counts-rest : (y : Year) (j : ℕ) → overCourses (rule10Course false false j) (live y) ≡ live y
+counts-nothing : (y : Year) (j : ℕ) → overCourses (rule10Course false false j) (live y) ≡ live y
 unfolding rule10Course verdict10
-counts-rest y j = over-rests (rule10Course false false j) y (y .courses) (λ i m. ap (judged y i j) (choose-any (λ v. v ≡ Stays) (isOpen (courseAt y i) j) Stays Stays refl refl))
+counts-nothing y j = over-still (rule10Course false false j) y (y .courses) (λ i m. ap (judged y i j) (choose-any (λ v. v ≡ Stays) (isOpen (courseAt y i) j) Stays Stays refl refl))
 
 none-open : (y : Year) (j : ℕ) → openCount y j ≡ 0 → (i : ℕ) → i < y .courses → isOpen (courseAt y i) j ≡ false
 unfolding openCount
@@ -175,27 +175,27 @@ none-open y j e i h = go (isOpen (courseAt y i) j) refl (sum-term-le (y .courses
     go true q l = absurd (omega arith)
     go false q l = q
 
-none-rest : (y : Year) (j : ℕ) (p q : Bool) → openCount y j ≡ 0 → overCourses (rule10Course p q j) (live y) ≡ live y
+none-open-nothing : (y : Year) (j : ℕ) (p q : Bool) → openCount y j ≡ 0 → overCourses (rule10Course p q j) (live y) ≡ live y
 unfolding rule10Course verdict10
-none-rest y j p q e = over-rests (rule10Course p q j) y (y .courses) (λ i m. rw (none-open y j e i m))
+none-open-nothing y j p q e = over-still (rule10Course p q j) y (y .courses) (λ i m. rw (none-open y j e i m))
 
-counted : (y : Year) (j : ℕ) (p q : Bool) → overCourses (rule10Course p q j) (live y) ≡ judgeTerm (Counts p q) y j
-unfolding rule10Course judgeCourse
+counted : (y : Year) (j : ℕ) (p q : Bool) → overCourses (rule10Course p q j) (live y) ≡ termJudged (ByCounts p q) y j
+unfolding rule10Course courseJudged
 counted y j p q = refl
 
 counts-are : (y : Year) (j : ℕ) (fails p q : Bool)
-    → choose fails (dead 10 y) (overCourses (rule10Course p q j) (live y)) ≡ judgeTerm (choose fails Fails (choose ((p || q) && ltb 0 (openCount y j)) (Counts p q) Rests)) y j
+    → choose fails (dead 10 y) (overCourses (rule10Course p q j) (live y)) ≡ termJudged (choose fails (NoPlan 10) (choose ((p || q) && ltb 0 (openCount y j)) (ByCounts p q) Nothing)) y j
 counts-are y j fails p q = go fails p q (ltb 0 (openCount y j)) refl
   where
     go : (fails p q some : Bool) → ltb 0 (openCount y j) ≡ some
-        → choose fails (dead 10 y) (overCourses (rule10Course p q j) (live y)) ≡ judgeTerm (choose fails Fails (choose ((p || q) && some) (Counts p q) Rests)) y j
+        → choose fails (dead 10 y) (overCourses (rule10Course p q j) (live y)) ≡ termJudged (choose fails (NoPlan 10) (choose ((p || q) && some) (ByCounts p q) Nothing)) y j
     go true p q some e = refl
-    go false false false some e = counts-rest y j ∙ sym (rests-is y j)
+    go false false false some e = counts-nothing y j ∙ sym (nothing-is y j)
     go false true q true e = counted y j true q
     go false false true true e = counted y j false true
-    go false true q false e = none-rest y j true q (omega (arith, ltb-false 0 (openCount y j) e)) ∙ sym (rests-is y j)
-    go false false true false e = none-rest y j false true (omega (arith, ltb-false 0 (openCount y j) e)) ∙ sym (rests-is y j)
+    go false true q false e = none-open-nothing y j true q (omega (arith, ltb-false 0 (openCount y j) e)) ∙ sym (nothing-is y j)
+    go false false true false e = none-open-nothing y j false true (omega (arith, ltb-false 0 (openCount y j) e)) ∙ sym (nothing-is y j)
 
-pub judged-10 : (y : Year) (j : ℕ) → rule10 y j ≡ judgeTerm (judge10 (termAt y j) (sumsAt y j)) y j
+pub rule-10-is : (y : Year) (j : ℕ) → rule10 y j ≡ termJudged (termVerdict10 (termAt y j) (sumsAt y j)) y j
 unfolding rule10 sumsAt fixedCount openCount
-judged-10 y j = counts-are y j (ltb (highCount y j) (fixedCount y j) || ltb (fixedCount y j + openCount y j) (lowCount y j)) (full y j) (needed y j)
+rule-10-is y j = counts-are y j (ltb (highCount y j) (fixedCount y j) || ltb (fixedCount y j + openCount y j) (lowCount y j)) (full y j) (needed y j)

@@ -1,6 +1,6 @@
 // The courses of a term in rising number: the verdict on each, and what it makes of the course's list.
-use crate::Judge;
-use crate::Kept;
+use crate::Carried;
+use crate::TermVerdict;
 use crate::verdicts;
 use frame::State;
 use rules::Verdict;
@@ -12,19 +12,19 @@ ghost use lib.ListN.{length};
 ghost use Rattle.year.specs.Sound.{Sound};
 ghost use Rattle.rules.specs.Step.{live, overCourses};
 ghost use Rattle.frame.specs.State.{held, yearIn, stepIn};
-ghost use Rattle.lists.specs.Judge.{keptOf, judgeCourse};
+ghost use Rattle.lists.specs.TermVerdict.{carriedOf, courseJudged};
 
 // The courses of term j, one after the other.
-pub fn each_course(s: State, weight: &[u32], j: usize, w: Judge) -> Kept
+pub fn each_course(s: State, weight: &[u32], j: usize, whole: TermVerdict) -> Carried
     requires { ⌜ (length (now weight) ≡ 64) × (j < s .terms) ⌝ }
     requires { ⌜ Sound (yearIn (now weight) s) ⌝ }
     requires { ⌜ s ≡ held (stepIn (now weight) s) ⌝ }
-    ensures { λ r. ⌜ r ≡ keptOf (overCourses (judgeCourse w j) (live (yearIn (now (weight .entry)) s))) j ⌝ }
+    ensures { λ r. ⌜ r ≡ carriedOf (overCourses (courseJudged whole j) (live (yearIn (now (weight .entry)) s))) j ⌝ }
 {
     let t = s.term[j];
     let u = s.sums[j];
     let list = s.list;
-    let mut k = Kept {
+    let mut k = Carried {
         list: list,
         fixed: u.fixed.0,
         possible: u.possible.0,
@@ -35,7 +35,7 @@ pub fn each_course(s: State, weight: &[u32], j: usize, w: Judge) -> Kept
         // only courses before i were altered
         let c = parts::course(weight, &list, i);
         let credits = c.weight.0;
-        let v = verdicts::verdict_of(w, c, t, k.fixed, k.possible, j);
+        let v = verdicts::course_verdict(whole, c, t, k.fixed, k.possible, j);
         match v {
             Verdict::Struck => {
                 k.list[i] = c.list - doors::power(j);

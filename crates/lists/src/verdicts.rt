@@ -1,13 +1,42 @@
-// Verdicts on a course and a term, from small values alone.
-use crate::Judge;
+// What rules 3 and 10 say of a whole term and of a course there, from small values alone.
+use crate::TermVerdict;
 use rules::Verdict;
 use year::Course;
+use year::Sums;
 use year::Term;
 use year::tighter;
 ghost use mathlib.Core.Path.{_≡_};
 ghost use Prim.Native.Nat.{_+_, _-_, _<_};
 ghost use Rattle.rules.specs.Lists.{verdict3, verdict10};
-ghost use Rattle.lists.specs.Judge.{verdictOf};
+ghost use Rattle.lists.specs.TermVerdict.{termVerdict3, termVerdict10, courseVerdict};
+
+// Rule 3: no open course of the term weighs more than `heaviest`, so it says nothing with room for that and enough without it.
+pub fn term_verdict_3(t: Term, u: Sums, heaviest: u32) -> TermVerdict
+    requires { ⌜ (u .fixed .0 + heaviest < 100000) × (t .low .0 + heaviest < 100000) ⌝ }
+    ensures { λ r. ⌜ r ≡ termVerdict3 t u heaviest ⌝ }
+{
+    if (u.fixed.0 + heaviest <= t.high.0) & (t.low.0 + heaviest <= u.possible.0) {
+        return TermVerdict::Nothing;
+    }
+    TermVerdict::ByCredits
+}
+
+// Rule 10: what the term is, read once, before its courses are altered.
+pub fn term_verdict_10(t: Term, u: Sums) -> TermVerdict
+    requires { ⌜ u .placed .0 + u .free .0 < 100 ⌝ }
+    ensures { λ r. ⌜ r ≡ termVerdict10 t u ⌝ }
+{
+    let listed = u.placed.0 + u.free.0;
+    if (t.most.0 < u.placed.0) | (listed < t.least.0) {
+        return TermVerdict::NoPlan(10);
+    }
+    let full = u.placed.0 == t.most.0;
+    let needed = listed == t.least.0;
+    if (full | needed) & (0 < u.free.0) {
+        return TermVerdict::ByCounts(full, needed);
+    }
+    TermVerdict::Nothing
+}
 
 // Rule 3 with p credits fixed in term j and those possible there.
 fn verdict_3(c: Course, t: Term, p: u32, possible: u32, j: usize) -> Verdict
@@ -45,15 +74,23 @@ fn verdict_10(full: bool, needed: bool, c: Course, j: usize) -> Verdict
     Verdict::Stays
 }
 
-pub fn verdict_of(w: Judge, c: Course, t: Term, p: u32, possible: u32, j: usize) -> Verdict
+// A course of term j, by what the rule says of the whole term.
+pub fn course_verdict(
+    whole: TermVerdict,
+    c: Course,
+    t: Term,
+    p: u32,
+    possible: u32,
+    j: usize,
+) -> Verdict
     requires { ⌜ j < 16 ⌝ }
     requires { ⌜ p + c .weight .0 < 100000 ⌝ }
-    ensures { λ r. ⌜ r ≡ verdictOf w c t p possible j ⌝ }
+    ensures { λ r. ⌜ r ≡ courseVerdict whole c t p possible j ⌝ }
 {
-    match w {
-        Judge::Credits => verdict_3(c, t, p, possible, j),
-        Judge::Counts(full, needed) => verdict_10(full, needed, c, j),
-        Judge::Rests => Verdict::Stays,
-        Judge::Fails => Verdict::Stays,
+    match whole {
+        TermVerdict::ByCredits => verdict_3(c, t, p, possible, j),
+        TermVerdict::ByCounts(full, needed) => verdict_10(full, needed, c, j),
+        TermVerdict::Nothing => Verdict::Stays,
+        TermVerdict::NoPlan(_) => Verdict::Stays,
     }
 }

@@ -16,7 +16,7 @@ use Rattle.filter.specs.Filter.{filtered, atRest, roundsFrom, filterOf}
 use Rattle.filter.specs.Numbers.{filterNumber, filterRounds}
 use Rattle.filter.specs.declared.Answer.the-variants.{NoPlan, Settled, Open}
 use Rattle.filter.specs.declared.Filtered.{Filtered}
-use Rattle.filter.proofs.RoundLaws.{left, dies, rests, goes-on, round-falls, filter-narrower}
+use Rattle.filter.proofs.RoundLaws.{roundsLeft, round-no-plan, round-at-rest, round-alters, round-falls, filter-narrower}
 use Rattle.theory.proofs.ChoiceLaws.{choose-case}
 use Rattle.year.specs.Sums.{allPlaced}
 use Rattle.promises.specs.Rounds.{Altering, none, one-more, Ends, finds-no-plan, comes-to-rest, Filtering, Rested, FilteringNarrows}
@@ -57,22 +57,22 @@ few-rounds {y} {z} s a = omega (arith, altering-falls s a, leeway-most y s)
 
 -- one round: it ends the filtering, or what follows it is the rest
 one-round : (y z : Year) (n : ℕ) → Sound z → Altering y n z → n ≤ 1025984
-    → (round z .rule ≡ 0 → round z .altered ≡ true → Filtering y (roundsFrom (left (suc n)) y (round z .year) (suc n)))
-    → Filtering y (roundsFrom (left n) y z n)
+    → (round z .rule ≡ 0 → round z .altered ≡ true → Filtering y (roundsFrom (roundsLeft (suc n)) y (round z .year) (suc n)))
+    → Filtering y (roundsFrom (roundsLeft n) y z n)
 one-round y z n t a few rest = go (eqb (round z .rule) 0) (round z .altered) refl refl
   where
     plus : n + 1 ≡ suc n
     plus = omega arith
 
-    go : (b c : Bool) → eqb (round z .rule) 0 ≡ b → round z .altered ≡ c → Filtering y (roundsFrom (left n) y z n)
-    go false c e g = rw (dies y z n few e, plus) (record { rounds-before-last = n; reached = z; altering = a; ends = finds-no-plan (eqb-false (round z .rule) 0 e) })
+    go : (b c : Bool) → eqb (round z .rule) 0 ≡ b → round z .altered ≡ c → Filtering y (roundsFrom (roundsLeft n) y z n)
+    go false c e g = rw (round-no-plan y z n few e, plus) (record { rounds-before-last = n; reached = z; altering = a; ends = finds-no-plan (eqb-false (round z .rule) 0 e) })
     go true false e g =
         let q = round-quiet z t .0 g in
-        rw (rests y z n few e g, plus, q) (record { rounds-before-last = n; reached = z; altering = a; ends = comes-to-rest (eqb-true (round z .rule) 0 e) q })
-    go true true e g = rw (goes-on y z n few e g, plus) (rest (eqb-true (round z .rule) 0 e) g)
+        rw (round-at-rest y z n few e g, plus, q) (record { rounds-before-last = n; reached = z; altering = a; ends = comes-to-rest (eqb-true (round z .rule) 0 e) q })
+    go true true e g = rw (round-alters y z n few e g, plus) (rest (eqb-true (round z .rule) 0 e) g)
 
 -- the rest of a filtering; d is at least the leeway, so it outlasts the altering rounds
-rounds-on : (y z : Year) (n d : ℕ) → Sound z → Altering y n z → leeway z ≤ d → d + n ≤ 1025984 → Filtering y (roundsFrom (left n) y z n)
+rounds-on : (y z : Year) (n d : ℕ) → Sound z → Altering y n z → leeway z ≤ d → d + n ≤ 1025984 → Filtering y (roundsFrom (roundsLeft n) y z n)
 rounds-on y z n zero t a m f = one-round y z n t a (omega arith) (λ e g. absurd (omega (arith, round-falls z t g)))
 rounds-on y z n (suc d) t a m f =
     one-round y z n t a (omega arith)
@@ -85,22 +85,22 @@ filter-runs y s = rw (sound-to y s) (rounds-on y y 0 1025984 s none (leeway-most
 -- ---- and no other answer has such a chain
 
 module _ {y : Year} (s : Sound y) where
-  chain-from : {z : Year} {n : ℕ} → Altering y n z → roundsFrom 1025985 y y 0 ≡ roundsFrom (left n) y z n
+  chain-from : {z : Year} {n : ℕ} → Altering y n z → roundsFrom 1025985 y y 0 ≡ roundsFrom (roundsLeft n) y z n
   chain-from none = refl
   chain-from (one-more {n} {z} a r d) =
       let t = altering-narrower s a .sound in
       let plus : n + 1 ≡ suc n = omega arith in
       chain-from a
-      ∙ goes-on y z n (omega (arith, few-rounds s a)) (eq-eqb (round z .rule) 0 r) (altered-where-another z t d)
-      ∙ ap (λ k. roundsFrom (left k) y (round z .year) k) plus
+      ∙ round-alters y z n (omega (arith, few-rounds s a)) (eq-eqb (round z .rule) 0 r) (altered-where-another z t d)
+      ∙ ap (λ k. roundsFrom (roundsLeft k) y (round z .year) k) plus
 
-  end-from : {z : Year} {n : ℕ} {r : Filtered} → Altering y n z → Ends y n z r → roundsFrom (left n) y z n ≡ r
+  end-from : {z : Year} {n : ℕ} {r : Filtered} → Altering y n z → Ends y n z r → roundsFrom (roundsLeft n) y z n ≡ r
   end-from {z} {n} a (finds-no-plan e) =
       let plus : n + 1 ≡ suc n = omega arith in
-      dies y z n (omega (arith, few-rounds s a)) (ne-eqb (round z .rule) 0 e) ∙ ap (λ k. filtered (NoPlan (round z .rule) k) y) plus
+      round-no-plan y z n (omega (arith, few-rounds s a)) (ne-eqb (round z .rule) 0 e) ∙ ap (λ k. filtered (NoPlan (round z .rule) k) y) plus
   end-from {z} {n} a (comes-to-rest e q) =
       let plus : n + 1 ≡ suc n = omega arith in
-      rests y z n (omega (arith, few-rounds s a)) (eq-eqb (round z .rule) 0 e) (round-quiet z (altering-narrower s a .sound) .1 q)
+      round-at-rest y z n (omega (arith, few-rounds s a)) (eq-eqb (round z .rule) 0 e) (round-quiet z (altering-narrower s a .sound) .1 q)
       ∙ ap (λ k. filtered (atRest (round z .year) k) (round z .year)) plus
       ∙ ap (λ x. filtered (atRest x (suc n)) x) q
 

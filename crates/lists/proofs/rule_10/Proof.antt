@@ -1,4 +1,4 @@
--- The loop's invariant: the state after the first j terms, sums included. The loop ends at the last term or at the first that fails.
+-- The loop's invariant: the state after the first j terms, sums included. The loop ends at the last term, or where no plan was found.
 use Prim.Native.Nat.{_≤_, _<_, _-_}
 use mathlib.Core.Logic.{⊎-elim}
 use mathlib.Core.Path.{_≡_, ap, _∙_}
@@ -29,18 +29,18 @@ going : (c : tie.In-loop Inv-loop μ-loop) → c .before .loop .z .rule ≡ 0
 going c = eqb-true _ _ (and-true (ltb (c .before .loop .j) (c .before .before .before .args .t1 .terms)) (eqb (c .before .loop .z .rule) 0) (c .loop-test .taken) .1)
 
 -- what a turn finds
-at : (c : tie.After-judge-10 Inv-loop μ-loop) → let l = c .before .before .before .before in
+at : (c : tie.After-term-verdict-10 Inv-loop μ-loop) → let l = c .before .before .before .before in
     let a = l .before .before .args in
-    TermTurn rule10 (a .weight .now) (a .t1) (l .loop .z) (l .loop .j) (c .judge-10 .result)
+    TermTurn rule10 (a .weight .now) (a .t1) (l .loop .z) (l .loop .j) (c .term-verdict-10 .result)
 at c =
     let i = c .before .before .before in
     let l = i .before in
     let b = l .before .before in
-    turn-10 (b .args .weight .now) (b .args .t1) (b .pre .1 .0) (b .pre .1 .1 .1) (l .loop .j) (within i) (l .loop .z) (l .loop .inv .1) (going i) (c .judge-10 .result) (c .judge-10 .ensures)
+    turn-10 (b .args .weight .now) (b .args .t1) (b .pre .1 .0) (l .loop .j) (within i) (l .loop .z) (l .loop .inv .1) (going i) (c .term-verdict-10 .result) (c .term-verdict-10 .ensures)
 
 loop-holds : tie.Need-loop-holds Inv-loop μ-loop
 unfolding fold
-loop-holds c = (search needs, c .before .pre .1 .1 .0)
+loop-holds c = (search needs, c .before .pre .1 .1)
 
 mul-t : tie.Need-mul-t Inv-loop μ-loop
 mul-t c = let w = within c in search needs
@@ -48,23 +48,23 @@ mul-t c = let w = within c in search needs
 element-copy-out-t : tie.Need-element-copy-out-t Inv-loop μ-loop
 element-copy-out-t c = let w = within c in search needs
 
-mul-judge-10 : tie.Need-mul-judge-10 Inv-loop μ-loop
-mul-judge-10 c = let w = within (c .before) in search needs
+mul-term-verdict-10 : tie.Need-mul-term-verdict-10 Inv-loop μ-loop
+mul-term-verdict-10 c = let w = within (c .before) in search needs
 
-element-copy-out-judge-10 : tie.Need-element-copy-out-judge-10 Inv-loop μ-loop
-element-copy-out-judge-10 c = let w = within (c .before) in search needs
+element-copy-out-term-verdict-10 : tie.Need-element-copy-out-term-verdict-10 Inv-loop μ-loop
+element-copy-out-term-verdict-10 c = let w = within (c .before) in search needs
 
-judge-10-requires : tie.Need-judge-10-requires Inv-loop μ-loop
-judge-10-requires c κs = let i = c .before .before in
+term-verdict-10-requires : tie.Need-term-verdict-10-requires Inv-loop μ-loop
+term-verdict-10-requires c κs = let i = c .before .before in
     let l = i .before in
     let b = l .before .before in
-    fits-10 (b .args .weight .now) (b .args .t1) (b .pre .1 .0) (b .pre .1 .1 .1) (l .loop .j) (within i) (l .loop .z) (l .loop .inv .1)
+    fits-10 (b .args .weight .now) (b .args .t1) (b .pre .1 .0) (l .loop .j) (within i) (l .loop .z) (l .loop .inv .1) (going i)
 
 enum-told : tie.Need-enum-told Inv-loop μ-loop
 enum-told c = search needs
 
-judge-term-requires : tie.Need-judge-term-requires Inv-loop μ-loop
-judge-term-requires c κs = let r = at (c .before) .ready in
+term-judged-requires : tie.Need-term-judged-requires Inv-loop μ-loop
+term-judged-requires c κs = let r = at (c .before) .ready in
     ((c .before .before .before .before .before .before .before .pre .0, r .0), (r .1, (r .2, r .3)))
 
 add-j : tie.Need-add-j Inv-loop μ-loop
@@ -76,7 +76,7 @@ loop-less c = let w = within (c .before .before .before .before) in search needs
 loop-again : tie.Need-loop-again Inv-loop μ-loop
 loop-again c = let w = within (c .before .before .before .before) in
     let t = at (c .before) in
-    (search needs, ⊎-elim (λ q. q .2 ∙ t .rests (q .1 .given .1)) (λ q. q .2 ∙ q .1 .ensures ∙ t .goes-on) (c .match .came))
+    (search needs, ⊎-elim (λ q. q .2 ∙ t .says-nothing (q .1 .given .1)) (λ q. q .2 ∙ q .1 .ensures ∙ t .is-judged) (c .match .came))
 
 returns : tie.Need-returns Inv-loop μ-loop
 returns c = let l = c .before in
@@ -93,11 +93,11 @@ rule-10-spec =
     loop-holds
     mul-t
     element-copy-out-t
-    mul-judge-10
-    element-copy-out-judge-10
-    judge-10-requires
+    mul-term-verdict-10
+    element-copy-out-term-verdict-10
+    term-verdict-10-requires
     enum-told
-    judge-term-requires
+    term-judged-requires
     add-j
     loop-less
     loop-again

@@ -1,23 +1,26 @@
--- The loop's invariant is `Going`: each need is one of its laws at the values of the code.
-use Prim.Native.Nat.{ℕ}
+-- The loop's invariant is `BeforeRound`: each need is one of its laws at the values of the code.
+use Prim.Native.Nat.{ℕ, _+_}
 use mathlib.Core.List.{List}
-use mathlib.Core.Path.{_≡_, sym, ap}
+use mathlib.Core.Path.{_≡_, sym, ap, subst, _∙_}
 use native.Mathlib.Omega.{arith}
 use lib.ListN.{length}
 use borrow.Author.Needs.{needs}
 use borrow.Author.Tests.{not-true, not-false}
 use Rattle.totals.specs.Parts.{weightsOf}
 use Rattle.totals.specs.declared.Columns.{Columns}
+use Rattle.year.specs.Sound.{Sound}
 use Rattle.year.specs.declared.Year.{Year}
 use Rattle.frame.specs.State.{yearIn}
 use Rattle.rules.proofs.Leeway.{leeway}
 use Rattle.orders.proofs.OrderLaws.{weights-fit}
-use Rattle.filter.proofs.Going as go
+use Rattle.filter.specs.Filter.{filtered, atRest}
+use Rattle.filter.specs.declared.Answer.{Answer}
+use Rattle.filter.proofs.BeforeRound as laws
 use Rattle.filter.proofs.rounds.run.Statement.{statement}
 use Rattle.filter.proofs.rounds.run.Tie as tie
 
 abbrev Inv-loop : tie.InvT-loop
-Inv-loop y weight all o₀ s₀ n₀ o s n = go.Going y weight o s n
+Inv-loop y weight all o₀ s₀ n₀ o s n = laws.BeforeRound y weight o s n
 
 abbrev μ-loop : tie.MeasureT-loop
 μ-loop y weight all o₀ s₀ n₀ o s n = leeway (yearIn weight s)
@@ -37,7 +40,7 @@ own : (l : tie.At-loop Inv-loop μ-loop) → w l ≡ weightsOf (y l)
 own l = ap (λ (q : Columns). q .weight) (before l .apart .ensures)
 
 long : (l : tie.At-loop Inv-loop μ-loop) → length (w l) ≡ 64
-long l = go.long (y l) (w l) (before l .before .pre) (own l)
+long l = laws.long (y l) (w l) (before l .before .pre) (own l)
 
 -- ---- the needs
 
@@ -53,7 +56,7 @@ start-requires c κs = search needs
 loop-holds : tie.Need-loop-holds Inv-loop μ-loop
 loop-holds c =
     let a = c .before .before .before in
-    go.going-start (a .before .args .y) (a .apart .result .weight) (a .before .pre) (ap (λ (q : Columns). q .weight) (a .apart .ensures)) _ (c .start .result) (c .start .ensures)
+    laws.before-first (a .before .args .y) (a .apart .result .weight) (a .before .pre) (ap (λ (q : Columns). q .weight) (a .apart .ensures)) _ (c .start .result) (c .start .ensures)
 
 slice-aggregate-first-half : tie.Need-slice-aggregate-first-half Inv-loop μ-loop
 slice-aggregate-first-half c = sym (long (c .before))
@@ -64,7 +67,7 @@ first-half-requires c κs =
     let g = l .loop .inv in
     let sound = before l .before .pre in (
       long l,
-      (g .same .sound, (g .is, go.credits (y l) (w l) sound (own l) (l .loop .o) (l .loop .s) (l .loop .n) g _ (l .before .before .all-credits .ensures))),
+      (g .narrower .sound, (g .is, laws.credits (y l) (w l) sound (own l) (l .loop .o) (l .loop .s) (l .loop .n) g _ (l .before .before .all-credits .ensures))),
     )
 
 add-n : tie.Need-add-n Inv-loop μ-loop
@@ -79,7 +82,7 @@ returns : tie.Need-returns Inv-loop μ-loop
 returns c =
     let h = c .before .before .before in
     let l = h .before .before in
-    go.first-ended (y l) (w l) (before l .before .pre) (own l) (l .loop .o) (l .loop .s) (l .loop .n) (l .loop .inv) (h .first-half .result) (h .first-half .ensures)
+    laws.first-ended (y l) (w l) (before l .before .pre) (own l) (l .loop .o) (l .loop .s) (l .loop .n) (l .loop .inv) (h .first-half .result) (h .first-half .ensures)
     (c .before .if1 .taken) (c .no-plan .result) (c .no-plan .ensures)
 
 slice-aggregate-orders-by : tie.Need-slice-aggregate-orders-by Inv-loop μ-loop
@@ -103,10 +106,10 @@ second-half-requires c κs =
     let e = h .first-half .ensures in (
       long l,
       (
-        go.first-sound (y l) (w l) sound (own l) (l .loop .o) (l .loop .s) (l .loop .n) (l .loop .inv) r e,
+        laws.first-sound (y l) (w l) sound (own l) (l .loop .o) (l .loop .s) (l .loop .n) (l .loop .inv) r e,
         (
-          go.first-self (y l) (w l) sound (own l) (l .loop .o) (l .loop .s) (l .loop .n) (l .loop .inv) r e,
-          go.first-orders (y l) (w l) sound (own l) (l .loop .o) (l .loop .s) (l .loop .n) (l .loop .inv) r e (c .before .orders-by .result) (c .before .orders-by .ensures),
+          laws.first-self (y l) (w l) sound (own l) (l .loop .o) (l .loop .s) (l .loop .n) (l .loop .inv) r e,
+          laws.first-orders (y l) (w l) sound (own l) (l .loop .o) (l .loop .s) (l .loop .n) (l .loop .inv) r e (c .before .orders-by .result) (c .before .orders-by .ensures),
         ),
       ),
     )
@@ -119,42 +122,60 @@ returns-2 c =
     let k = c .before .before .before in
     let h = k .before .before .before .before .before .before in
     let l = h .before .before in
-    go.second-ended (y l) (w l) (before l .before .pre) (own l) (l .loop .o) (l .loop .s) (l .loop .n) (l .loop .inv) (h .first-half .result) (h .first-half .ensures)
+    laws.second-ended (y l) (w l) (before l .before .pre) (own l) (l .loop .o) (l .loop .s) (l .loop .n) (l .loop .inv) (h .first-half .result) (h .first-half .ensures)
     (k .second-half .result) (k .second-half .ensures) (c .before .if2 .taken) (c .no-plan2 .result) (c .no-plan2 .ensures)
 
-slice-aggregate-rested : tie.Need-slice-aggregate-rested Inv-loop μ-loop
-slice-aggregate-rested c = sym (long (c .before .before .before .before .before .before .before .before .before .before .before .before .before))
+slice-aggregate-year-in : tie.Need-slice-aggregate-year-in Inv-loop μ-loop
+slice-aggregate-year-in c = sym (long (c .before .before .before .before .before .before .before .before .before .before .before .before .before))
 
-rested-requires : tie.Need-rested-requires Inv-loop μ-loop
-rested-requires c κs =
-    let k = c .before .before .before .before .before in
+-- the state after a round holds a sound year
+sound-after : (k : tie.After-second-half Inv-loop μ-loop) → Sound (yearIn (w (k .before .before .before .before .before .before .before .before)) (k .second-half .result))
+sound-after k =
     let h = k .before .before .before .before .before .before in
     let l = h .before .before in
-    let sound = before l .before .pre in
-    let r = k .second-half .result in
-    let e = k .second-half .ensures in (
+    laws.second-sound (y l) (w l) (before l .before .pre) (own l) (l .loop .o) (l .loop .s) (l .loop .n) (l .loop .inv) (h .first-half .result) (h .first-half .ensures)
+    (k .second-half .result) (k .second-half .ensures)
+
+year-in-requires : tie.Need-year-in-requires Inv-loop μ-loop
+year-in-requires c κs =
+    let k = c .before .before .before .before .before in
+    let h = k .before .before .before .before .before .before in
+    let l = h .before .before in (
       long l,
       (
-        go.second-sound (y l) (w l) sound (own l) (l .loop .o) (l .loop .s) (l .loop .n) (l .loop .inv) (h .first-half .result) (h .first-half .ensures) r e,
-        go.second-self (y l) (w l) sound (own l) (l .loop .o) (l .loop .s) (l .loop .n) (l .loop .inv) (h .first-half .result) (h .first-half .ensures) r e,
+        sound-after k,
+        laws.second-self (y l) (w l) (before l .before .pre) (own l) (l .loop .o) (l .loop .s) (l .loop .n) (l .loop .inv) (h .first-half .result) (h .first-half .ensures)
+            (k .second-half .result) (k .second-half .ensures),
       ),
     )
 
+at-rest-requires : tie.Need-at-rest-requires Inv-loop μ-loop
+at-rest-requires c κs = subst Sound (sym (c .year-in .ensures)) (sound-after (c .before .before .before .before .before .before))
+
+handed-back-requires : tie.Need-handed-back-requires Inv-loop μ-loop
+handed-back-requires c κs = search needs
+
 returns-3 : tie.Need-returns-3 Inv-loop μ-loop
 returns-3 c =
-    let t = c .before .before in
+    let a = c .before in
+    let z = a .before in
+    let t = z .before .before in
     let k = t .before .before .before .before in
     let h = k .before .before .before .before .before .before in
     let l = h .before .before in
-    go.second-rests (y l) (w l) (before l .before .pre) (own l) (l .loop .o) (l .loop .s) (l .loop .n) (l .loop .inv) (h .first-half .result) (h .first-half .ensures)
-    (k .second-half .result) (k .second-half .ensures) (t .before .before .if2 .left) (not-true _ (t .if3 .taken)) (c .rested .result) (c .rested .ensures)
+    let n = l .loop .n + 1 in
+    laws.second-at-rest (y l) (w l) (before l .before .pre) (own l) (l .loop .o) (l .loop .s) (l .loop .n) (l .loop .inv) (h .first-half .result) (h .first-half .ensures)
+    (k .second-half .result) (k .second-half .ensures) (t .before .before .if2 .left) (not-true _ (t .if3 .taken)) (c .handed-back .result)
+    (c .handed-back .ensures
+    ∙ ap (λ (x : Answer). filtered x (z .year-in .result)) (a .at-rest .ensures)
+    ∙ ap (λ (x : Year). filtered (atRest x n) x) (z .year-in .ensures))
 
 loop-less : tie.Need-loop-less Inv-loop μ-loop
 loop-less c =
     let k = c .before .before .before .before in
     let h = k .before .before .before .before .before .before in
     let l = h .before .before in
-    go.second-falls (y l) (w l) (before l .before .pre) (own l) (l .loop .o) (l .loop .s) (l .loop .n) (l .loop .inv) (h .first-half .result) (h .first-half .ensures)
+    laws.second-falls (y l) (w l) (before l .before .pre) (own l) (l .loop .o) (l .loop .s) (l .loop .n) (l .loop .inv) (h .first-half .result) (h .first-half .ensures)
     (k .second-half .result) (k .second-half .ensures) (not-false _ (c .if3 .left))
 
 loop-again : tie.Need-loop-again Inv-loop μ-loop
@@ -163,7 +184,7 @@ loop-again c =
     let b = k .before .before in
     let h = b .before .before .before .before in
     let l = h .before .before in
-    go.second-again (y l) (w l) (before l .before .pre) (own l) (l .loop .o) (l .loop .s) (l .loop .n) (l .loop .inv) (h .first-half .result) (h .first-half .ensures)
+    laws.second-alters (y l) (w l) (before l .before .pre) (own l) (l .loop .o) (l .loop .s) (l .loop .n) (l .loop .inv) (h .first-half .result) (h .first-half .ensures)
     (k .second-half .result) (k .second-half .ensures) (c .before .before .if2 .left) (not-false _ (c .if3 .left)) (b .orders-by .result) (b .orders-by .ensures)
 
 pub run-spec : {M : Type 1} → statement M
@@ -187,8 +208,10 @@ run-spec =
     second-half-requires
     no-plan-requires-2
     returns-2
-    slice-aggregate-rested
-    rested-requires
+    slice-aggregate-year-in
+    year-in-requires
+    at-rest-requires
+    handed-back-requires
     returns-3
     loop-less
     loop-again)

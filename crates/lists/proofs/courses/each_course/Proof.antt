@@ -13,26 +13,26 @@ use Rattle.totals.proofs.PartLaws.{course-in}
 use Rattle.frame.specs.State.{yearIn}
 use Rattle.frame.specs.declared.State.{State}
 use Rattle.frame.proofs.StateLaws.{sums-held, list-long}
-use Rattle.lists.proofs.CourseLaws.{kept-is, keptTo, Turn, turn-at}
+use Rattle.lists.proofs.CourseLaws.{carried-is, carriedTo, Turn, turn-at}
 use Rattle.lists.proofs.courses.each_course.Statement.{statement}
 use Rattle.lists.proofs.courses.each_course.Tie as tie
 
 abbrev Inv-loop : tie.InvT-loop
-Inv-loop weight j w s t list k₀ i₀ k i = (i ≤ s .courses) × (k ≡ keptTo w (yearIn weight s) j i)
+Inv-loop weight j whole s t list k₀ i₀ k i = (i ≤ s .courses) × (k ≡ carriedTo whole (yearIn weight s) j i)
 
 abbrev μ-loop : tie.MeasureT-loop
-μ-loop weight j w s t list k₀ i₀ k i = s .courses - i
+μ-loop weight j whole s t list k₀ i₀ k i = s .courses - i
 
 -- what a turn finds
 at : (c : tie.After-course Inv-loop μ-loop) → let l = c .before .before .before in
     let a = l .before .before .before .before .before .args in
-    Turn (a .w) (yearIn (a .weight .now) (a .t1)) (a .j) (l .loop .i) (l .loop .k) (c .course .result)
+    Turn (a .whole) (yearIn (a .weight .now) (a .t1)) (a .j) (l .loop .i) (l .loop .k) (c .course .result)
 at c =
     let i = c .before .before in
     let l = i .before in
     let b = l .before .before .before .before .before in
     let a = b .args in
-    turn-at (a .w) (yearIn (a .weight .now) (a .t1)) (a .j) (l .loop .i) (l .loop .k) (c .course .result) (b .pre .1 .0) (b .pre .0 .1) (i .loop-test .taken) (l .loop .inv .1)
+    turn-at (a .whole) (yearIn (a .weight .now) (a .t1)) (a .j) (l .loop .i) (l .loop .k) (c .course .result) (b .pre .1 .0) (b .pre .0 .1) (i .loop-test .taken) (l .loop .inv .1)
     (c .course .ensures ∙ sym (course-in (a .weight .now) (a .t1 .list) (l .loop .i) (omega (arith, b .pre .1 .0))))
 
 mul-t : tie.Need-mul-t Inv-loop μ-loop
@@ -53,7 +53,7 @@ loop-holds c = let b = c .before .before .before .before in
     let a = b .args in
     let y = yearIn (a .weight .now) (a .t1) in
     let u = sums-read y (a .t1 .sums) (sums-held (a .weight .now) (a .t1) (b .pre .1 .1)) (a .j) (omega (arith, b .pre .1 .0)) in
-    (search needs, kept-is _ y _ (a .j) (ap (λ (z : State). z .list) (b .pre .1 .1)) (ap (λ (z : Sums). z .fixed .0) u) (ap (λ (z : Sums). z .possible .0) u) refl)
+    (search needs, carried-is _ y _ (a .j) (ap (λ (z : State). z .list) (b .pre .1 .1)) (ap (λ (z : Sums). z .fixed .0) u) (ap (λ (z : Sums). z .possible .0) u) refl)
 
 slice-aggregate-course : tie.Need-slice-aggregate-course Inv-loop μ-loop
 slice-aggregate-course c = search needs
@@ -64,8 +64,8 @@ course-requires c κs = let b = c .before .before .before .before .before .befor
     let i : c .before .before .loop .i < 64 = omega (arith, b .pre .1 .0) in
     (omega (arith, b .pre .0 .0), omega (arith, list-long (a .weight .now) (a .t1) (b .pre .1 .1)))
 
-verdict-of-requires : tie.Need-verdict-of-requires Inv-loop μ-loop
-verdict-of-requires c κs = (omega (arith, c .before .before .before .before .before .before .before .before .pre .1 .0), omega (arith, at c .p-small))
+course-verdict-requires : tie.Need-course-verdict-requires Inv-loop μ-loop
+course-verdict-requires c κs = (omega (arith, c .before .before .before .before .before .before .before .before .pre .1 .0), omega (arith, at c .p-small))
 
 enum-told : tie.Need-enum-told Inv-loop μ-loop
 enum-told c = search needs
@@ -75,7 +75,7 @@ power-requires c κs = search needs
 
 sub-k : tie.Need-sub-k Inv-loop μ-loop
 sub-k c = let q = c .before .before .before .before in
-    omega (arith, c .before .power .ensures, at (q .before) .is-listed (sym (q .verdict-of .ensures) ∙ c .before .before .enum-told .given .1))
+    omega (arith, c .before .power .ensures, at (q .before) .is-listed (sym (q .course-verdict .ensures) ∙ c .before .before .enum-told .given .1))
 
 mul-k : tie.Need-mul-k Inv-loop μ-loop
 mul-k c = search needs
@@ -85,7 +85,7 @@ element-write-k c = search needs
 
 sub-k-2 : tie.Need-sub-k-2 Inv-loop μ-loop
 sub-k-2 c = let q = c .before .before .before .before in
-    omega (arith, at (q .before) .is-possible (sym (q .verdict-of .ensures) ∙ c .before .before .enum-told .given .1))
+    omega (arith, at (q .before) .is-possible (sym (q .course-verdict .ensures) ∙ c .before .before .enum-told .given .1))
 
 enum-told-2 : tie.Need-enum-told-2 Inv-loop μ-loop
 enum-told-2 c = search needs
@@ -114,7 +114,7 @@ loop-less c = search needs
 loop-again : tie.Need-loop-again Inv-loop μ-loop
 loop-again c = let v = c .before in
     let t = at (v .before) in
-    let is = sym (v .verdict-of .ensures) in (
+    let is = sym (v .course-verdict .ensures) in (
       search needs,
       ⊎-elim
           (λ q. q .4 ∙ t .strikes (is ∙ q .1 .given .1) _ (q .2 .ensures))
@@ -128,7 +128,7 @@ returns : tie.Need-returns Inv-loop μ-loop
 returns c = let l = c .before in
     let a = l .before .before .before .before .before .args in
     let is : l .loop .i ≡ a .t1 .courses = omega arith in
-    l .loop .inv .1 ∙ ap (keptTo (a .w) (yearIn (a .weight .now) (a .t1)) (a .j)) is
+    l .loop .inv .1 ∙ ap (carriedTo (a .whole) (yearIn (a .weight .now) (a .t1)) (a .j)) is
 
 pub each-course-spec : {M : Type 1} → statement M
 each-course-spec =
@@ -143,7 +143,7 @@ each-course-spec =
     loop-holds
     slice-aggregate-course
     course-requires
-    verdict-of-requires
+    course-verdict-requires
     enum-told
     power-requires
     sub-k

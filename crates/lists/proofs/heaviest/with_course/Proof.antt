@@ -1,0 +1,71 @@
+-- The loop's invariant: the array at the start, filled for the first k terms.
+use Prim.Native.Nat.{ℕ, _≤_, _-_}
+use mathlib.Core.Path.{_≡_, sym, ap, ap₂, _∙_}
+use native.Mathlib.Omega.{arith}
+use lib.ListN.{replicate, set, length-replicate}
+use borrow.Author.Needs.{needs}
+use Rattle.theory.proofs.TabLaws.{fill, fill-more, fill-all}
+use Rattle.lists.specs.Heaviest.{heaviestWith}
+use Rattle.lists.proofs.heaviest.with_course.Statement.{statement}
+use Rattle.lists.proofs.heaviest.with_course.Tie as tie
+
+abbrev Inv-loop : tie.InvT-loop
+Inv-loop c heaviest r₀ k₀ r k = (k ≤ 16) × (r ≡ fill (heaviestWith heaviest c) r₀ k)
+
+abbrev μ-loop : tie.MeasureT-loop
+μ-loop c heaviest r₀ k₀ r k = 16 - k
+
+loop-holds : tie.Need-loop-holds Inv-loop μ-loop
+unfolding fill
+loop-holds c = search needs
+
+mul-heavier : tie.Need-mul-heavier Inv-loop μ-loop
+mul-heavier c = search needs
+
+array-read-heavier : tie.Need-array-read-heavier Inv-loop μ-loop
+array-read-heavier c = search needs
+
+heavier-requires : tie.Need-heavier-requires Inv-loop μ-loop
+heavier-requires c κs = search needs
+
+mul-r : tie.Need-mul-r Inv-loop μ-loop
+mul-r c = search needs
+
+array-write-r : tie.Need-array-write-r Inv-loop μ-loop
+array-write-r c = search needs
+
+add-k : tie.Need-add-k Inv-loop μ-loop
+add-k c = search needs
+
+loop-less : tie.Need-loop-less Inv-loop μ-loop
+loop-less c = search needs
+
+loop-again : tie.Need-loop-again Inv-loop μ-loop
+loop-again c =
+    let l = c .before .before in
+    let b = l .before in
+    (search needs, ap₂ (λ r v. set r (l .loop .k) v) (l .loop .inv .1) (c .heavier .ensures) ∙ sym (fill-more (heaviestWith (b .args .t1) (b .args .c)) (replicate 16 0) (l .loop .k)))
+
+returns : tie.Need-returns Inv-loop μ-loop
+returns c =
+    let l = c .before in
+    let f = heaviestWith (l .before .args .t1) (l .before .args .c) in
+    let is : l .loop .k ≡ 16 = omega arith in
+    l .loop .inv .1 ∙ ap (fill f (replicate 16 0)) is ∙ fill-all f (replicate 16 0) 0 16 (length-replicate {A = ℕ} 16 0)
+
+pub with-course-spec : {M : Type 1} → statement M
+with-course-spec =
+    tie.close
+    (tie.spec
+    Inv-loop
+    μ-loop
+    loop-holds
+    mul-heavier
+    array-read-heavier
+    heavier-requires
+    mul-r
+    array-write-r
+    add-k
+    loop-less
+    loop-again
+    returns)
