@@ -25,11 +25,11 @@ use Rattle.orders.specs.Orders.{ordersIn, ordersOf}
 use Rattle.orders.specs.declared.Orders.{Orders}
 use Rattle.orders.proofs.OrderLaws.{orders-are, orders-weights}
 use Rattle.filter.specs.Filter.{filtered, atRest, roundsFrom}
-use Rattle.filter.specs.Halves.{firstHalf, secondHalf, halves}
+use Rattle.filter.specs.Halves.{firstHalf, secondHalf}
 use Rattle.filter.specs.declared.Answer.the-variants.{NoPlan}
 use Rattle.filter.specs.declared.Filtered.{Filtered}
 use Rattle.filter.proofs.StateAt.{Own, StateAt, state-sound, state-self, state-step, state-year, state-credits, state-rule}
-use Rattle.filter.proofs.RoundLaws.{roundsLeft, round-no-plan, round-at-rest, round-alters, round-falls}
+use Rattle.filter.proofs.RoundLaws.{halves, roundsLeft, round-no-plan, round-at-rest, round-alters, round-falls}
 
 -- after n rounds, each of which altered something: what is left to do from the year at hand gives what the whole filtering
 -- gives, and the leeway of that year has fallen by at least one a round

@@ -1,7 +1,7 @@
 -- How rounds go on after n of them. The number that makes the recursion end never runs out: every altering round lowers the leeway.
 use Prim.Native.Nat.{ℕ, zero, suc, _+_, _-_, _≤_, _<_}
 use mathlib.Core.Bool.{Bool, true, false}
-use mathlib.Core.Path.{_≡_}
+use mathlib.Core.Path.{_≡_, refl}
 use native.Mathlib.Omega.{arith}
 use lib.Dec.{eqb}
 use Rattle.year.specs.Sound.{Sound}
@@ -11,9 +11,15 @@ use Rattle.rules.specs.Round.{round}
 use Rattle.rules.proofs.Leeway.{leeway}
 use Rattle.rules.proofs.Narrows.{Narrower, narrower-self, narrower-then}
 use Rattle.rules.proofs.Passes.{narrows-round}
+use Rattle.filter.specs.Halves.{firstHalf, secondHalf}
 use Rattle.filter.specs.Filter.{filtered, atRest, roundsFrom, filterOf}
 use Rattle.filter.specs.declared.Answer.the-variants.{NoPlan}
 use Rattle.filter.specs.declared.Filtered.{Filtered}
+
+-- the halves are a split of the list of passes
+pub halves : (y : Year) → round y ≡ secondHalf (firstHalf y)
+unfolding round firstHalf secondHalf
+halves y = refl
 
 -- what n rounds leave of the paper's 1,025,985
 abbrev pub roundsLeft : ℕ → ℕ

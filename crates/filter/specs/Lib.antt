@@ -1,4 +1,4 @@
--- Filtering, and what its answers say.
+-- To be believed: filtering, and what its answers say. Halves and Computing alone are inner.
 pub mod Filter
 pub mod Halves
 pub mod Numbers

@@ -1,3 +1,3 @@
--- How the code goes through the courses of a term: the same definitions for rules 3 and 10.
+-- Inner, not to be believed: how the code goes through the courses of a term: the same definitions for rules 3 and 10.
 pub mod TermVerdict
 pub mod Heaviest

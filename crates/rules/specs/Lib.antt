@@ -1,4 +1,4 @@
--- To be believed: the eleven rules of a round, family by family.
+-- To be believed: the eleven rules of a round, family by family. Computing alone is inner.
 pub mod Step
 pub mod Bounds
 pub mod Lists
