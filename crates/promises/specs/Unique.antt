@@ -12,6 +12,8 @@ use Rattle.year.specs.declared.Narrowed.{Narrowed}
 use Rattle.year.specs.declared.Measured.{Measured}
 use Rattle.records.specs.Reading.{readList}
 use Rattle.records.specs.Writing.{writeAnswer, written}
+use Rattle.records.specs.Numbers.{faultNumber}
+use Rattle.records.specs.declared.Fault.{Fault}
 use Rattle.records.specs.declared.Received.{Received}
 use Rattle.records.specs.declared.Writing.{Writing}
 use Rattle.filter.specs.Filter.{filterOf}
@@ -19,14 +21,15 @@ use Rattle.filter.specs.declared.Filtered.{Filtered}
 use Rattle.boundary.specs.Calls.{readCode, imbalanceCode, filterCode, filterOut, narrowCode, narrowOut}
 use Rattle.promises.specs.Narrowings.{Narrow, narrow}
 
--- the public calls (Year::empty, is_sound, the six narrowings, imbalance, read, write, filter, and the four for other languages), each
--- with what it is given, a lent buffer included
+-- the public calls (Year::empty, is_sound, the six narrowings, imbalance, read, fault_number, write, filter, and the four for other
+-- languages), each with what it is given, a lent buffer included
 pub data PublicCall : Type 0 where
   empty : PublicCall
   sound : Year → PublicCall
   narrowing : Narrow → Year → PublicCall
   imbalance : Year → PublicCall
   reading : List ℕ → PublicCall
+  numberOfFault : Fault → PublicCall
   writing : Year → List ℕ → PublicCall
   filtering : Year → PublicCall
   exportedRead exportedImbalance : List ℕ → PublicCall
@@ -40,6 +43,7 @@ Gives (sound y) = Bool
 Gives (narrowing n y) = Narrowed
 Gives (imbalance y) = Measured
 Gives (reading list) = Received
+Gives (numberOfFault f) = ℕ
 Gives (writing y buffer) = Writing × List ℕ
 Gives (filtering y) = Filtered
 Gives (exportedRead list) = ℕ
@@ -54,6 +58,7 @@ Contract (sound y) r = r ≡ isSound y
 Contract (narrowing n y) r = r ≡ narrow n y
 Contract (imbalance y) r = r ≡ imbalanceOf y
 Contract (reading list) r = r ≡ readList list
+Contract (numberOfFault f) r = r ≡ faultNumber f
 Contract (writing y buffer) r = (r .0 ≡ writeAnswer y (length buffer)) × (r .1 ≡ written y buffer)
 Contract (filtering y) r = r ≡ filterOf y
 Contract (exportedRead list) r = r ≡ readCode list
