@@ -7,7 +7,7 @@ use Rattle.theory.specs.Tab.{tab}
 use Rattle.theory.proofs.TabLaws.{length-tab}
 use Rattle.year.specs.Year.{weight}
 use Rattle.year.specs.SumsOf.{sumsTo, sumsAt}
-use Rattle.totals.specs.Parts.{bare, yearFrom}
+use Rattle.totals.specs.Parts.{coursesOnly, yearFrom}
 use Rattle.year.specs.Sound.{Sound}
 use Rattle.totals.proofs.PartLaws.{year-is, weight-fits, list-fits}
 use Rattle.rules.specs.Step.{step, Step}
@@ -51,6 +51,6 @@ pub lists-fit : (w : List ℕ) (s : State) → Sound (yearIn w s) → (i : ℕ) 
 lists-fit w s a i h = (weight-fits (s .terms) (s .courses) (s .term) w (s .list) a i h, list-fits (s .terms) (s .courses) (s .term) w (s .list) a i h)
 
 -- and what they give
-pub sums-in : (m n : ℕ) (t : List _) (w l : List ℕ) → tab 16 (λ j. sumsTo (bare w l) j n) ≡ tab 16 (sumsAt (yearFrom m n t w l))
+pub sums-in : (m n : ℕ) (t : List _) (w l : List ℕ) → tab 16 (λ j. sumsTo (coursesOnly w l) j n) ≡ tab 16 (sumsAt (yearFrom m n t w l))
 unfolding sumsAt
 sums-in m n t w l = refl

@@ -49,9 +49,9 @@ small y i j s h = omega (arith, s, possible-le y j, all-credits-le y s, s .cours
 abbrev verdictAt : TermVerdict → ℕ → Year → ℕ → Verdict
 verdictAt w j y i = courseVerdict w (courseAt y i) (termAt y j) (fixedCredits y j) (possibleCredits y j) j
 
-turn : (w : TermVerdict) (j : ℕ) (s : Step) (i : ℕ) (v : Verdict) → s .rule ≡ 0 → verdictAt w j (s .year) i ≡ v → next (courseJudged w j) s i ≡ joined s (judged (s .year) i j v)
+judged-turn : (w : TermVerdict) (j : ℕ) (s : Step) (i : ℕ) (v : Verdict) → s .rule ≡ 0 → verdictAt w j (s .year) i ≡ v → next (courseJudged w j) s i ≡ joined s (judged (s .year) i j v)
 unfolding courseJudged
-turn w j s i v r e = rw (r, e)
+judged-turn w j s i v r e = rw (r, e)
 
 -- only an open course has a verdict
 verdict-stays : (w : TermVerdict) (c : Course) (t : Term) (p P j : ℕ) → isOpen c j ≡ false → courseVerdict w c t p P j ≡ Stays
@@ -110,9 +110,9 @@ onward w j y zero = record { goes-on = refl; term-same = refl; course-same = λ 
 onward w j y (suc n) =
     let s = overTo (courseJudged w j) (live y) n in
     let o = onward w j y n in
-    subst (Onward y (suc n)) (sym (turn w j s n _ (o .goes-on) refl)) (onward-judged y n j s (verdictAt w j (s .year) n) o)
+    subst (Onward y (suc n)) (sym (judged-turn w j s n _ (o .goes-on) refl)) (onward-judged y n j s (verdictAt w j (s .year) n) o)
 
--- ---- a turn of the code's loop
+-- ---- a judged-turn of the code's loop
 
 -- what the code carries after n courses
 abbrev pub carriedTo : TermVerdict → Year → ℕ → ℕ → Carried
@@ -161,7 +161,7 @@ module _ (w : TermVerdict) (y : Year) (j i : ℕ) (k : Carried) (c : Course) (so
   same = rw (fixed-is, possible-is, course, o .term-same)
 
   after : (u : Verdict) → v ≡ u → carriedOf (joined s (judged (s .year) i j u)) j ≡ carriedTo w y j (i + 1)
-  after u e = ap (λ t. carriedOf t j) (sym (fold-more goes (then (courseJudged w j)) (live y) i ∙ turn w j s i u (o .goes-on) (sym same ∙ e)))
+  after u e = ap (λ t. carriedOf t j) (sym (fold-more goes (then (courseJudged w j)) (live y) i ∙ judged-turn w j s i u (o .goes-on) (sym same ∙ e)))
 
   is-open : (v ≡ Stays → ⊥) → isOpen (courseAt (s .year) i) j ≡ true
   is-open d = rw course at (verdict-open w c (termAt y j) (k .fixed) (k .possible) j d)

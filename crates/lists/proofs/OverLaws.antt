@@ -66,8 +66,8 @@ terms-over : (f : Year → ℕ → Step) → OnLists f → (y : Year) (n : ℕ) 
 terms-over f l y n = fold-keeps goes (then f) (live y) (λ z. z .year .term ≡ y .term) n (λ z k h e q. l .terms (z .year) k ∙ q) refl
 
 -- where no plan was found before the first term, all of them are left alone
-pub passes : (rule : Year → ℕ → Step) (s : Step) → (s .rule ≡ 0 → ⊥) → overTerms rule s ≡ s
-passes rule s d = fold-none goes (then rule) s (ne-eqb (s .rule) 0 d) (s .year .terms)
+pub no-plan-stays : (rule : Year → ℕ → Step) (s : Step) → (s .rule ≡ 0 → ⊥) → overTerms rule s ≡ s
+no-plan-stays rule s d = fold-none goes (then rule) s (ne-eqb (s .rule) 0 d) (s .year .terms)
 
 -- where none is found at term j, none was before the first
 went-on : (rule : Year → ℕ → Step) (s : Step) (j : ℕ) → overTo rule s j .rule ≡ 0 → s .rule ≡ 0

@@ -18,7 +18,7 @@ use Rattle.theory.proofs.TabLaws.{length-tab}
 use Rattle.year.specs.Year.{termAt, courseAt, weight, isOpen, lowCredits, highCredits, lowCount, highCount}
 use Rattle.year.specs.Sums.{openWeight, fixedCredits, openCredits, possibleCredits, openOne, fixedCount, openCount}
 use Rattle.year.specs.SumsOf.{sumsTo, sumsAt}
-use Rattle.totals.specs.Parts.{listsOf, bare, yearFrom}
+use Rattle.totals.specs.Parts.{listsOf, coursesOnly, yearFrom}
 use Rattle.year.specs.Sound.{Sound}
 use Rattle.year.specs.declared.Course.{Course}
 use Rattle.year.specs.declared.Sums.{Sums}
@@ -115,7 +115,7 @@ module _ (ws : List ℕ) (s : State) (w : TermVerdict) (j : ℕ) (h : j < s .ter
           ),
         )
 
-    pub alters : k .altered ≡ true → (u : List Sums) → u ≡ tab 16 (λ i. sumsTo (bare ws (k .list)) i (s .courses))
+    pub alters : k .altered ≡ true → (u : List Sums) → u ≡ tab 16 (λ i. sumsTo (coursesOnly ws (k .list)) i (s .courses))
         → record { terms = s .terms; courses = s .courses; term = s .term; list = k .list; sums = u; altered = true; rule = 0 } ≡ after
     alters a u f =
         state-is (sym (narrows .year .terms-same)) (sym (narrows .year .courses-same)) (sym (o .term-same)) list

@@ -109,20 +109,20 @@ module _ (w : List ℕ) (s : State) (e : s ≡ held (stepIn w s)) where
   -- ---- the answer
 
   -- a rule before found no plan
-  pub passes : (s .rule ≡ 0 → ⊥) → s ≡ held (once rule11 (stepIn w s))
-  passes d = e ∙ ap held (sym (next-dead (λ y k. rule11 y) (stepIn w s) 0 (ne-eqb (s .rule) 0 d)))
+  pub no-plan-stays : (s .rule ≡ 0 → ⊥) → s ≡ held (once rule11 (stepIn w s))
+  no-plan-stays d = e ∙ ap held (sym (next-dead (λ y k. rule11 y) (stepIn w s) 0 (ne-eqb (s .rule) 0 d)))
 
   altered-is : s .altered ≡ s .altered || false
   altered-is = sym (or-false (s .altered))
 
-  pub fails : s .rule ≡ 0 → unpackable (yearIn w s) ≡ true → failed s ≡ held (once rule11 (stepIn w s))
-  fails z u = ap failed e ∙ ap held dies
+  pub finds-no-plan : s .rule ≡ 0 → unpackable (yearIn w s) ≡ true → failed s ≡ held (once rule11 (stepIn w s))
+  finds-no-plan z u = ap failed e ∙ ap held dies
     where
       dies : step (yearIn w s) (s .altered) 11 ≡ once rule11 (stepIn w s)
       dies = rw (z, rule11-is (yearIn w s), u) (λ i. step (yearIn w s) (altered-is i) 11)
 
-  pub rests : s .rule ≡ 0 → unpackable (yearIn w s) ≡ false → s ≡ held (once rule11 (stepIn w s))
-  rests z u = e ∙ ap held still
+  pub finds-nothing : s .rule ≡ 0 → unpackable (yearIn w s) ≡ false → s ≡ held (once rule11 (stepIn w s))
+  finds-nothing z u = e ∙ ap held still
     where
       still : stepIn w s ≡ once rule11 (stepIn w s)
       still = rw (z, rule11-is (yearIn w s), u) (λ i. step (yearIn w s) (altered-is i) 0)

@@ -25,10 +25,14 @@ unfoldable sums : Unit {0}
 unfolding fixedCredits openCredits fixedCount openCount allCredits isPlaced allPlaced creditsWithin countsWithin outcome
 sums = tt
 
-unfoldable families : Unit {0}
-unfolding rule1 rule2 rule4 rule5 verdict3 rule3Course rule3 verdict10 rule10Course rule10 spares blocked charged walkOf down up rule6 rule7 rule8 rule9 shares rule11
-families = tt
+unfoldable onLists : Unit {0}
+unfolding verdict3 rule3Course rule3 verdict10 rule10Course rule10
+onLists = tt
+
+unfoldable byWalks : Unit {0}
+unfolding spares blocked charged walkOf down up rule6 rule7 rule8 rule9
+byWalks = tt
 
 unfoldable pub computing : Unit {0}
-unfolding words sums families round
+unfolding words sums rule1 rule2 rule4 rule5 onLists byWalks shares rule11 round
 computing = tt

@@ -15,7 +15,7 @@ use Rattle.theory.proofs.TabLaws.{length-tab, getD-tab, tab-cong, tab-getD}
 use Rattle.year.specs.Year.{courseOf, zeroCourse, courseAt, weight, list, isFixed, isOpen}
 use Rattle.year.specs.Sums.{fixedWeight, openWeight, fixedOne, openOne}
 use Rattle.year.specs.SumsOf.{sumsTo, sumsAt, noSums}
-use Rattle.totals.specs.Parts.{weightsOf, listsOf, columnsOf, courseFrom, coursesFrom, yearFrom, bare}
+use Rattle.totals.specs.Parts.{weightsOf, listsOf, columnsOf, courseFrom, coursesFrom, yearFrom, coursesOnly}
 use Rattle.year.specs.Sound.{Sound}
 use Rattle.totals.specs.declared.Columns.{Columns}
 use Rattle.year.specs.declared.Course.{Course}
@@ -63,17 +63,17 @@ nowhere x m j h l = (go (has x j) refl, ne-eqb x (2 ^ j) (λ e. let b = has-belo
     go true e = let b = has-below m x j h e in absurd (omega arith)
 
 module _ (w l : List ℕ) (m n j : ℕ) (few : n ≤ 64) (past : m ≤ j) (within : (i : ℕ) → i < n → getD l i 0 < 2 ^ m) where
-  none : (i : ℕ) → i < n → (isFixed (courseAt (bare w l) i) j ≡ false) × (isOpen (courseAt (bare w l) i) j ≡ false)
+  none : (i : ℕ) → i < n → (isFixed (courseAt (coursesOnly w l) i) j ≡ false) × (isOpen (courseAt (coursesOnly w l) i) j ≡ false)
   none i h =
       let q = nowhere (getD l i 0) m j (within i h) past in
       rw (course-in w l i (omega arith)) (q .1, rw (q .0) refl)
 
-  pub sums-past : sumsTo (bare w l) j n ≡ noSums
+  pub sums-past : sumsTo (coursesOnly w l) j n ≡ noSums
   sums-past =
-      let f = sum-zero n (fixedWeight (bare w l) j) (λ i h. rw (none i h .0) refl) in
-      let o = sum-zero n (openWeight (bare w l) j) (λ i h. rw (none i h .1) refl) in
-      let c = sum-zero n (fixedOne (bare w l) j) (λ i h. rw (none i h .0) refl) in
-      let d = sum-zero n (openOne (bare w l) j) (λ i h. rw (none i h .1) refl) in
+      let f = sum-zero n (fixedWeight (coursesOnly w l) j) (λ i h. rw (none i h .0) refl) in
+      let o = sum-zero n (openWeight (coursesOnly w l) j) (λ i h. rw (none i h .1) refl) in
+      let c = sum-zero n (fixedOne (coursesOnly w l) j) (λ i h. rw (none i h .0) refl) in
+      let d = sum-zero n (openOne (coursesOnly w l) j) (λ i h. rw (none i h .1) refl) in
       rw (f, o, c, d) refl
 
 -- ---- a sound year's own columns
@@ -103,6 +103,6 @@ module _ (y : Year) (q : Columns) (s : Sound y) (e : q ≡ columnsOf y) where
   together : coursesFrom (q .weight) (q .list) ≡ y .course
   together = ap (coursesFrom (q .weight)) (ap (λ (z : Columns). z .list) e) ∙ parts-are y (q .weight) (s .course-length) weight-is
 
-  pub sums-apart : tab 16 (λ j. sumsTo (bare (q .weight) (q .list)) j (y .courses)) ≡ tab 16 (sumsAt y)
+  pub sums-apart : tab 16 (λ j. sumsTo (coursesOnly (q .weight) (q .list)) j (y .courses)) ≡ tab 16 (sumsAt y)
   unfolding sumsAt
   sums-apart = ap (λ (cs : List Course). tab 16 (λ j. sumsTo (record { terms = 0; courses = 0; term = []; course = cs }) j (y .courses))) together

@@ -34,8 +34,8 @@ abbrev pub yearFrom : ℕ → ℕ → List Term → List ℕ → List ℕ → Ye
 yearFrom m n t w l = record { terms = m; courses = n; term = t; course = coursesFrom w l }
 
 -- a year of which only the courses are asked
-abbrev pub bare : List ℕ → List ℕ → Year
-bare w l = yearFrom 0 0 [] w l
+abbrev pub coursesOnly : List ℕ → List ℕ → Year
+coursesOnly w l = yearFrom 0 0 [] w l
 
 -- ---- entries of an array of terms, and of one of sums
 

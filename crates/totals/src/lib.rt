@@ -14,7 +14,7 @@ ghost use lib.ListN.{length, getD};
 ghost use Rattle.theory.specs.Tab.{tab};
 ghost use Rattle.year.specs.Year.{isFixed, isOpen};
 ghost use Rattle.year.specs.Sound.{Sound};
-ghost use Rattle.totals.specs.Parts.{bare};
+ghost use Rattle.totals.specs.Parts.{coursesOnly};
 ghost use Rattle.year.specs.SumsOf.{sumsTo, sumsAt, noSums, sumsWith};
 ghost use Rattle.year.specs.Sums.{isPlaced, allPlaced, allCredits};
 
@@ -84,7 +84,7 @@ fn with_course(s: Sums, c: Course, j: usize) -> Sums
 fn sums_in(weight: &[u32], list: &[u16], n: usize, j: usize) -> Sums
     requires { ⌜ (n ≤ 64) × (n ≤ length (now weight)) × (n ≤ length (now list)) × (j < 16) ⌝ }
     requires { ⌜ ((i : ℕ) → i < n → getD (now weight) i 0 ≤ 1000) ⌝ }
-    ensures { λ r. ⌜ r ≡ sumsTo (bare (now (weight .entry)) (now (list .entry))) j n ⌝ }
+    ensures { λ r. ⌜ r ≡ sumsTo (coursesOnly (now (weight .entry)) (now (list .entry))) j n ⌝ }
 {
     let mut s = nothing();
     for i in 0..n {
@@ -97,7 +97,7 @@ fn sums_in(weight: &[u32], list: &[u16], n: usize, j: usize) -> Sums
 pub fn sums_over(weight: &[u32], list: &[u16], m: usize, n: usize) -> [Sums; 16]
     requires { ⌜ (n ≤ 64) × (n ≤ length (now weight)) × (n ≤ length (now list)) × (m ≤ 16) ⌝ }
     requires { ⌜ ((i : ℕ) → i < n → (getD (now weight) i 0 ≤ 1000) × (getD (now list) i 0 < 2 ^ m)) ⌝ }
-    ensures { λ r. ⌜ r ≡ tab 16 (λ j. sumsTo (bare (now (weight .entry)) (now (list .entry))) j n) ⌝ }
+    ensures { λ r. ⌜ r ≡ tab 16 (λ j. sumsTo (coursesOnly (now (weight .entry)) (now (list .entry))) j n) ⌝ }
 {
     let z = nothing();
     let mut s = [z; 16];

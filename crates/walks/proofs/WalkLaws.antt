@@ -21,7 +21,7 @@ use Rattle.rules.proofs.Steps.{credits-tighter, counts-tighter}
 use Rattle.year.specs.Sound.{TermSound}
 use Rattle.year.specs.Sums.{fixedWeight, fixedOne, openOne}
 use Rattle.year.specs.SumsOf.{sumsTo}
-use Rattle.totals.specs.Parts.{bare, coursesFrom}
+use Rattle.totals.specs.Parts.{coursesOnly, coursesFrom}
 use Rattle.year.specs.declared.Course.{Course}
 use Rattle.year.specs.declared.Sums.{Sums}
 use Rattle.year.specs.declared.Term.{Term}
@@ -111,16 +111,16 @@ unfolding keep
 keep-none test [] h = refl
 keep-none test (g ∷ L) h = rw (h 0 (omega arith)) (keep-none test L (λ k l. h (suc k) (omega arith)))
 
-module _ (w l : List ℕ) (j n : ℕ) (s : Sums) (e : s ≡ sumsTo (bare w l) j n) where
+module _ (w l : List ℕ) (j n : ℕ) (s : Sums) (e : s ≡ sumsTo (coursesOnly w l) j n) where
   -- a walk that begins with them is far from the largest number
   pub sums-small : n ≤ 64 → ((i : ℕ) → i < n → getD w i 0 ≤ 1000) → (s .fixed .0 ≤ 64000) × (s .placed .0 ≤ 64) × (s .free .0 ≤ 64)
   sums-small few light =
-      let f : s .fixed .0 ≡ sum n (fixedWeight (bare w l) j) = ap (λ (z : Sums). z .fixed .0) e in
-      let c : s .placed .0 ≡ sum n (fixedOne (bare w l) j) = ap (λ (z : Sums). z .placed .0) e in
-      let o : s .free .0 ≡ sum n (openOne (bare w l) j) = ap (λ (z : Sums). z .free .0) e in
-      let all = weights-to (bare w l) n (λ i h. subst (λ (x : Course). x .weight .0 ≤ 1000) (sym (course-in w l i (omega arith))) (light i h)) in
-      let counts = counts-to (bare w l) j n in
-      (omega (arith, all, possible-to (bare w l) j n), omega arith, omega arith)
+      let f : s .fixed .0 ≡ sum n (fixedWeight (coursesOnly w l) j) = ap (λ (z : Sums). z .fixed .0) e in
+      let c : s .placed .0 ≡ sum n (fixedOne (coursesOnly w l) j) = ap (λ (z : Sums). z .placed .0) e in
+      let o : s .free .0 ≡ sum n (openOne (coursesOnly w l) j) = ap (λ (z : Sums). z .free .0) e in
+      let all = weights-to (coursesOnly w l) n (λ i h. subst (λ (x : Course). x .weight .0 ≤ 1000) (sym (course-in w l i (omega arith))) (light i h)) in
+      let counts = counts-to (coursesOnly w l) j n in
+      (omega (arith, all, possible-to (coursesOnly w l) j n), omega arith, omega arith)
 
   -- where none is open, no course is
   none-open : s .free .0 ≡ 0 → (i : ℕ) → i < n → openIn (coursesFrom w l) j i ≡ false
@@ -129,9 +129,9 @@ module _ (w l : List ℕ) (j n : ℕ) (s : Sums) (e : s ≡ sumsTo (bare w l) j 
       go : (b : Bool) → openIn (coursesFrom w l) j i ≡ b → openIn (coursesFrom w l) j i ≡ false
       go false p = p
       go true p =
-          let o : s .free .0 ≡ sum n (openOne (bare w l) j) = ap (λ (x : Sums). x .free .0) e in
-          let one : openOne (bare w l) j i ≡ 1 = ap (λ b. pick b 1) p in
-          absurd (omega (arith, sum-term-le n i (openOne (bare w l) j) h))
+          let o : s .free .0 ≡ sum n (openOne (coursesOnly w l) j) = ap (λ (x : Sums). x .free .0) e in
+          let one : openOne (coursesOnly w l) j i ≡ 1 = ap (λ b. pick b 1) p in
+          absurd (omega (arith, sum-term-le n i (openOne (coursesOnly w l) j) h))
 
   -- and the walk over none ends as it began
   pub none-walked : (u : Until) (o : List ℕ) (a : Walk) → n ≤ length o → ((k : ℕ) → k < n → getD o k 0 < n) → s .free .0 ≡ 0

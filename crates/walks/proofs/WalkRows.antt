@@ -12,7 +12,7 @@ use Rattle.year.specs.Sound.{Sound, TermSound}
 use Rattle.year.specs.declared.Sums.{Sums}
 use Rattle.year.specs.declared.Year.{Year}
 use Rattle.year.proofs.SumLaws.{sums-read}
-use Rattle.totals.specs.Parts.{bare, coursesFrom, termIn, sumsIn}
+use Rattle.totals.specs.Parts.{coursesOnly, coursesFrom, termIn, sumsIn}
 use Rattle.rules.specs.Step.{Step, overTerms}
 use Rattle.rules.specs.Round.{bounded}
 use Rattle.rules.specs.Spares.{spares, walkOf, down, up, rule6, rule7, rule8, rule9}
@@ -111,7 +111,7 @@ module _ {w : List ℕ} {s : State} {o : Orders} (a : Ready w s o) where
   fits : (r : WalkRule) → OrderFits (orderOf r o) (s .courses)
   fits r = subst (λ d. OrderFits (orderOf r d) (s .courses)) (sym (a .orders-are)) (order-fits r (yearIn w s) (a .sound))
 
-  sums-are : (k : ℕ) → k < 16 → sumsIn (s .sums) k ≡ sumsTo (bare w (s .list)) k (s .courses)
+  sums-are : (k : ℕ) → k < 16 → sumsIn (s .sums) k ≡ sumsTo (coursesOnly w (s .list)) k (s .courses)
   unfolding sumsAt
   sums-are = sums-read (yearIn w s) (s .sums) (sums-held w s (a .is-held))
 
@@ -121,7 +121,7 @@ module _ {w : List ℕ} {s : State} {o : Orders} (a : Ready w s o) where
       × (((k : ℕ) → k < 16 → TermSound (termIn (b .term) k))
       × (((s .courses ≤ 64) × (s .courses ≤ length w) × (s .courses ≤ length (s .list)) × (s .courses ≤ length (orderOf r o)))
       × ((((k : ℕ) → k < s .courses → getD (orderOf r o) k 0 < s .courses) × ((i : ℕ) → i < s .courses → getD w i 0 ≤ 1000))
-      × (((k : ℕ) → k < 16 → sumsIn (s .sums) k ≡ sumsTo (bare w (s .list)) k (s .courses))
+      × (((k : ℕ) → k < 16 → sumsIn (s .sums) k ≡ sumsTo (coursesOnly w (s .list)) k (s .courses))
       × (t ≡ talliesOf (s .sums))))))
   walk-asks r {b} {q} g e =
       let n : s .courses ≤ 64 = a .sound .courses-most in

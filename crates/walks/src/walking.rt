@@ -18,7 +18,7 @@ ghost use Prim.Native.Nat.{ℕ, _+_, _≤_, _<_};
 ghost use lib.ListN.{length, getD, take};
 ghost use Rattle.year.specs.SumsOf.{sumsTo};
 ghost use Rattle.year.specs.Sound.{TermSound};
-ghost use Rattle.totals.specs.Parts.{bare, coursesFrom, termIn, sumsIn};
+ghost use Rattle.totals.specs.Parts.{coursesOnly, coursesFrom, termIn, sumsIn};
 ghost use Rattle.rules.specs.Spares.{stops};
 ghost use Rattle.frame.specs.Bounds.{boundsOver};
 ghost use Rattle.walks.specs.Sparing.{talliesOf};
@@ -149,7 +149,7 @@ fn by_walk(
 ) -> Outcome
     requires { ⌜ (n ≤ 64) × (n ≤ length (now weight)) × (n ≤ length (now list)) × (n ≤ length (now order)) × (j < 16) ⌝ }
     requires { ⌜ ((k : ℕ) → k < n → getD (now order) k 0 < n) × ((i : ℕ) → i < n → getD (now weight) i 0 ≤ 1000) ⌝ }
-    requires { ⌜ u ≡ sumsTo (bare (now weight) (now list)) j n ⌝ }
+    requires { ⌜ u ≡ sumsTo (coursesOnly (now weight) (now list)) j n ⌝ }
     ensures { λ r. ⌜ r ≡ endedOf rule t (walkOver (coursesFrom (now (weight .entry)) (now (list .entry))) j (untilOf rule t) (take n (now (order .entry))) (begunOf spare u)) ⌝ }
 {
     let w = begun(spare, u);
@@ -179,7 +179,7 @@ pub fn walk_rule(
     requires { ⌜ ((k : ℕ) → k < 16 → TermSound (termIn (b .term) k)) ⌝ }
     requires { ⌜ (n ≤ 64) × (n ≤ length (now weight)) × (n ≤ length (now list)) × (n ≤ length (now order)) ⌝ }
     requires { ⌜ ((k : ℕ) → k < n → getD (now order) k 0 < n) × ((i : ℕ) → i < n → getD (now weight) i 0 ≤ 1000) ⌝ }
-    requires { ⌜ ((k : ℕ) → k < 16 → sumsIn sums k ≡ sumsTo (bare (now weight) (now list)) k n) ⌝ }
+    requires { ⌜ ((k : ℕ) → k < 16 → sumsIn sums k ≡ sumsTo (coursesOnly (now weight) (now list)) k n) ⌝ }
     requires { ⌜ tallies ≡ talliesOf sums ⌝ }
     ensures { λ r. ⌜ r ≡ boundsOver (walkedAt rule sums (coursesFrom (now (weight .entry)) (now (list .entry))) (now (order .entry)) n) b m ⌝ }
 {

@@ -9,7 +9,7 @@ use Rattle.rules.specs.Step.{overTo}
 use Rattle.frame.specs.State.{held, stepIn}
 use Rattle.rules.specs.Lists.{rule3}
 use Rattle.frame.proofs.StateLaws.{list-long}
-use Rattle.lists.proofs.OverLaws.{passes, TermTurn, fits-3, turn-3}
+use Rattle.lists.proofs.OverLaws.{no-plan-stays, TermTurn, fits-3, turn-3}
 use Rattle.lists.proofs.rule_3.Statement.{statement}
 use Rattle.lists.proofs.rule_3.Tie as tie
 
@@ -39,7 +39,7 @@ at c =
 
 returns : tie.Need-returns Inv-loop μ-loop
 returns c = let b = c .before .before in
-    b .pre .1 .1 ∙ ap held (sym (passes rule3 (stepIn (b .args .weight .now) (b .args .t1)) (c .if1 .taken)))
+    b .pre .1 .1 ∙ ap held (sym (no-plan-stays rule3 (stepIn (b .args .weight .now) (b .args .t1)) (c .if1 .taken)))
 
 slice-aggregate-heaviest : tie.Need-slice-aggregate-heaviest Inv-loop μ-loop
 slice-aggregate-heaviest c = search needs

@@ -1,12 +1,12 @@
--- A year already without plans passes; the answer decides the rest.
+-- A state that found no plan passes; whether all can be packed decides the rest.
 use mathlib.Core.Path.{sym, _∙_}
 use borrow.Author.Needs.{needs}
-use Rattle.packing.proofs.StateLaws.{passes, fails, rests}
+use Rattle.packing.proofs.StateLaws.{no-plan-stays, finds-no-plan, finds-nothing}
 use Rattle.packing.proofs.rule_11.Statement.{statement}
 use Rattle.packing.proofs.rule_11.Tie as tie
 
 returns : tie.Need-returns
-returns c = let b = c .before .before .before in passes (b .args .weight .now) (b .args .s) (b .pre .1 .1) (c .if1 .taken)
+returns c = let b = c .before .before .before in no-plan-stays (b .args .weight .now) (b .args .s) (b .pre .1 .1) (c .if1 .taken)
 
 unpackable-requires : tie.Need-unpackable-requires
 unpackable-requires c κs = search needs
@@ -14,12 +14,12 @@ unpackable-requires c κs = search needs
 returns-2 : tie.Need-returns-2
 returns-2 c = let e = c .before .before in
     let b = e .before .before .before in
-    fails (b .args .weight .now) (b .args .s) (b .pre .1 .1) (e .if1 .left) (sym (c .before .unpackable .ensures) ∙ c .if2 .taken)
+    finds-no-plan (b .args .weight .now) (b .args .s) (b .pre .1 .1) (e .if1 .left) (sym (c .before .unpackable .ensures) ∙ c .if2 .taken)
 
 returns-3 : tie.Need-returns-3
 returns-3 c = let e = c .before .before in
     let b = e .before .before .before in
-    rests (b .args .weight .now) (b .args .s) (b .pre .1 .1) (e .if1 .left) (sym (c .before .unpackable .ensures) ∙ c .if2 .left)
+    finds-nothing (b .args .weight .now) (b .args .s) (b .pre .1 .1) (e .if1 .left) (sym (c .before .unpackable .ensures) ∙ c .if2 .left)
 
 pub rule-11-spec : {M : Type 1} → statement M
 rule-11-spec = tie.close (tie.spec returns unpackable-requires returns-2 returns-3)

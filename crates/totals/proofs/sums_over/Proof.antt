@@ -7,14 +7,14 @@ use lib.ListN.{length, replicate, set, length-replicate, getD-replicate}
 use borrow.Author.Needs.{needs}
 use Rattle.theory.proofs.TabLaws.{fill, fill-more, fill-front, length-fill}
 use Rattle.year.specs.SumsOf.{sumsTo, noSums}
-use Rattle.totals.specs.Parts.{bare}
+use Rattle.totals.specs.Parts.{coursesOnly}
 use Rattle.year.specs.declared.Sums.{Sums}
 use Rattle.totals.proofs.PartLaws.{sums-past}
 use Rattle.totals.proofs.sums_over.Statement.{statement}
 use Rattle.totals.proofs.sums_over.Tie as tie
 
 abbrev sumsFor : List ℕ → List ℕ → ℕ → ℕ → Sums
-sumsFor w l n j = sumsTo (bare w l) j n
+sumsFor w l n j = sumsTo (coursesOnly w l) j n
 
 abbrev Inv-loop : tie.InvT-loop
 Inv-loop weight list m n s₀ j₀ s j = (j ≤ m) × (s ≡ fill (sumsFor weight list n) s₀ j)
