@@ -19,7 +19,8 @@ use Rattle.frame.specs.State.{held, yearIn, stepIn}
 use Rattle.rules.specs.Round.{passesOf, passesFrom, round}
 use Rattle.frame.specs.declared.State.{State}
 use Rattle.rules.proofs.Leeway.{leeway, leeway-most}
-use Rattle.rules.proofs.Narrows.{Narrower, narrower-self, narrower-then}
+use Rattle.rules.specs.Narrower.{Narrower}
+use Rattle.rules.proofs.Narrows.{narrower-self, narrower-then}
 use Rattle.rules.proofs.Passes.{row-narrower, row-last, lawful-part, lawful-from, narrows-round}
 use Rattle.orders.specs.Orders.{ordersIn, ordersOf}
 use Rattle.orders.specs.declared.Orders.{Orders}

@@ -9,7 +9,8 @@ use Rattle.year.specs.declared.Year.{Year}
 use Rattle.year.proofs.SoundLaws.{sound-to}
 use Rattle.rules.specs.Round.{round}
 use Rattle.rules.proofs.Leeway.{leeway}
-use Rattle.rules.proofs.Narrows.{Narrower, narrower-self, narrower-then}
+use Rattle.rules.specs.Narrower.{Narrower}
+use Rattle.rules.proofs.Narrows.{narrower-self, narrower-then}
 use Rattle.rules.proofs.Passes.{narrows-round}
 use Rattle.filter.specs.Halves.{firstHalf, secondHalf}
 use Rattle.filter.specs.Filter.{filtered, atRest, roundsFrom, filterOf}

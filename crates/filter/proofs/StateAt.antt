@@ -13,7 +13,8 @@ use Rattle.frame.specs.State.{held, yearIn, stepIn}
 use Rattle.rules.specs.Step.{Step}
 use Rattle.rules.specs.Round.{inRow, passesOf}
 use Rattle.frame.specs.declared.State.{State}
-use Rattle.rules.proofs.Narrows.{Narrower, credits-same}
+use Rattle.rules.specs.Narrower.{Narrower}
+use Rattle.rules.proofs.Narrows.{credits-same}
 use Rattle.frame.proofs.StateLaws.{year-held, step-held, sound-held, held-self}
 use Rattle.rules.proofs.Passes.{row-narrower, lawful-part}
 

@@ -14,7 +14,8 @@ use Rattle.totals.specs.Parts.{listsOf}
 use Rattle.rules.specs.Step.{Step, goes, then, overTo}
 use Rattle.rules.specs.Round.{bounded}
 use Rattle.rules.specs.declared.Outcome.{Outcome}
-use Rattle.rules.proofs.Narrows.{Narrower, narrower-self, narrower-then, Narrows, credits-same}
+use Rattle.rules.specs.Narrower.{Narrower}
+use Rattle.rules.proofs.Narrows.{narrower-self, narrower-then, Narrows, credits-same}
 use Rattle.rules.proofs.KeptOver.{AtTerms}
 
 -- a rule on bounds that narrows at every term

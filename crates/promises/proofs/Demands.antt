@@ -24,7 +24,7 @@ use Rattle.promises.proofs.RoundsKept.{filter-kept, filter-unsound}
 use Rattle.promises.proofs.Narrowings.{each-narrowing}
 use Rattle.promises.proofs.SettledPlan.{settled-plan}
 use Rattle.promises.proofs.RoundTrip.{read-done, read-refused, wrote}
-use Rattle.promises.proofs.Sequence.{sequence-no-looser, sequence-plans, sequence-no-plan, sequence-settled}
+use Rattle.promises.proofs.Sequence.{sequence-narrower, sequence-plans, sequence-no-plan, sequence-settled}
 
 -- ---- 1
 
@@ -85,7 +85,7 @@ demand-2 = record {
 pub demand-3 : Demand3
 demand-3 = record {
   plans-kept = sequence-plans;
-  no-looser = sequence-no-looser;
+  narrower = sequence-narrower;
   no-plan-only-where-none = sequence-no-plan;
   settled-is-the-plan = sequence-settled;
   settled-exactly-if-plan = settled-plan;

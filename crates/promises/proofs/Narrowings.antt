@@ -26,52 +26,25 @@ use Rattle.year.specs.declared.Narrowing.the-variants.{Done, Unsound, Missing, 
 use Rattle.year.specs.declared.Narrowed.{Narrowed}
 use Rattle.year.proofs.SoundLaws.{sound-of}
 use Rattle.rules.specs.Step.{outcome}
-use Rattle.rules.proofs.Narrows.{Narrower, narrower-self}
+use Rattle.rules.specs.Narrower.{Narrower}
+use Rattle.rules.proofs.Narrows.{narrower-self}
 use Rattle.rules.proofs.Steps.{OutcomeTighter, credits-tighter, counts-tighter, narrows-put, narrows-struck, narrows-placed}
 use Rattle.rules.proofs.DoorPlans.{credits-plans, counts-plans, placed-plans, struck-plans}
-use Rattle.promises.specs.Narrowings.{Narrow, place, bar, raiseLowCredits, lowerHighCredits, raiseLowCount, lowerHighCount, narrow, Meets, missing, outside, crossing, numberDue, NoLooser, NarrowedBy, EachNarrowing}
-
--- a step that narrows leaves a year that is no looser, and such a year is narrower
-module _ (y z : Year) where
-  pub no-looser-of : Narrower y z → NoLooser y z
-  no-looser-of w = record {
-    sound = w .sound;
-    terms-same = w .terms-same;
-    courses-same = w .courses-same;
-    weight-same = w .weight-same;
-    low-credits = w .low-credits;
-    high-credits = w .high-credits;
-    low-count = w .low-count;
-    high-count = w .high-count;
-    lists-less = w .lists-less;
-  }
-
-  narrower-of : NoLooser y z → Narrower y z
-  narrower-of w = record {
-    sound = w .sound;
-    terms-same = w .terms-same;
-    courses-same = w .courses-same;
-    weight-same = w .weight-same;
-    low-credits = w .low-credits;
-    high-credits = w .high-credits;
-    low-count = w .low-count;
-    high-count = w .high-count;
-    lists-less = w .lists-less;
-  }
+use Rattle.promises.specs.Narrowings.{Narrow, place, bar, raiseLowCredits, lowerHighCredits, raiseLowCount, lowerHighCount, narrow, Meets, missing, outside, crossing, numberDue, NarrowedBy, EachNarrowing}
 
 -- ---- refused, or done
 
 module _ (y : Year) (n : Narrow) where
   when-refused : (a : Narrowing) → (narrowingNumber a ≡ 0 → ⊥) → narrowingNumber a ≡ numberDue y n → NarrowedBy y n (answered a y)
   when-refused a ne e = record {
-    no-looser = λ s. no-looser-of y y (narrower-self y s);
+    narrower = λ s. narrower-self y s;
     plans = λ z p. absurd (ne z);
     refused = λ q. refl;
     number = e;
   }
 
   when-done : (z : Year) → Narrower y z → ((p : Placing) → Plan z p ↔ (Plan y p × Meets y n p)) → 0 ≡ numberDue y n → NarrowedBy y n (answered Done z)
-  when-done z w h e = record { no-looser = λ s. no-looser-of y z w; plans = λ q p. h p; refused = λ q. absurd (q refl); number = e }
+  when-done z w h e = record { narrower = λ s. w; plans = λ q p. h p; refused = λ q. absurd (q refl); number = e }
 
   -- refusals 8, 10 and 11 are in order: it is left to show what the narrowing does then
   past-refusals : (r : Narrowed) → (Sound y → missing y n ≡ false → numberDue y n ≡ choose (crossing y n) 12 0 → NarrowedBy y n r)
@@ -266,4 +239,4 @@ each-narrowing (raiseLowCount j v) y = raise-low-count y j v
 each-narrowing (lowerHighCount j v) y = lower-high-count y j v
 
 pub narrow-narrower : (n : Narrow) (y : Year) → Sound y → Narrower y (narrow n y .year)
-narrow-narrower n y s = narrower-of y (narrow n y .year) (each-narrowing n y .no-looser s)
+narrow-narrower n y s = each-narrowing n y .narrower s

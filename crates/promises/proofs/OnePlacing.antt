@@ -19,7 +19,7 @@ use Rattle.year.specs.Sound.{Sound}
 use Rattle.year.specs.declared.Year.{Year}
 use Rattle.rules.specs.Bounds.{rule1, rule4}
 use Rattle.rules.specs.Round.{bounded, passes, round}
-use Rattle.rules.proofs.Narrows.{Narrower}
+use Rattle.rules.specs.Narrower.{Narrower}
 use Rattle.rules.proofs.Steps.{narrows-1, narrows-4}
 use Rattle.rules.proofs.Passes.{Each}
 use Rattle.rules.proofs.Rest.{Leaves, round-rest, terms-rest, outcome-rest}

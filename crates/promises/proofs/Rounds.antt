@@ -10,7 +10,8 @@ use Rattle.year.specs.declared.Year.{Year}
 use Rattle.year.proofs.SoundLaws.{sound-to}
 use Rattle.rules.specs.Round.{round}
 use Rattle.rules.proofs.Leeway.{leeway, leeway-most}
-use Rattle.rules.proofs.Narrows.{Narrower, narrower-self, narrower-then}
+use Rattle.rules.specs.Narrower.{Narrower}
+use Rattle.rules.proofs.Narrows.{narrower-self, narrower-then}
 use Rattle.rules.proofs.Passes.{narrows-round, round-quiet}
 use Rattle.filter.specs.Filter.{filtered, atRest, roundsFrom, filterOf}
 use Rattle.filter.specs.Numbers.{filterNumber, filterRounds}
@@ -20,7 +21,6 @@ use Rattle.filter.proofs.RoundLaws.{roundsLeft, round-no-plan, round-at-rest, r
 use Rattle.theory.proofs.ChoiceLaws.{choose-case}
 use Rattle.year.specs.Sums.{allPlaced}
 use Rattle.promises.specs.Rounds.{Altering, none, one-more, Ends, finds-no-plan, comes-to-rest, Filtering, Rested, FilteringNarrows}
-use Rattle.promises.proofs.Narrowings.{no-looser-of}
 
 -- ---- marks and years
 
@@ -114,7 +114,7 @@ module _ {y : Year} (s : Sound y) where
 -- ---- what is handed back
 
 pub filtering-narrows : FilteringNarrows
-filtering-narrows y s = no-looser-of y (filterOf y .year) (filter-narrower y s)
+filtering-narrows y s = filter-narrower y s
 
 rest-rounds : (z : Year) (n : ℕ) → filterRounds (atRest z n) ≡ n
 rest-rounds z n = choose-case (λ a. filterRounds a ≡ n) (allPlaced z) (Settled n) (Open n) (λ e. refl) (λ e. refl)

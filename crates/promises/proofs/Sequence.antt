@@ -22,11 +22,12 @@ use Rattle.filter.specs.Numbers.{isSettled}
 use Rattle.records.proofs.WriteRead.{write-read}
 use Rattle.filter.proofs.RoundLaws.{filter-narrower}
 use Rattle.rules.proofs.Alike.{Alike, alike-narrower, credits-alike, count-alike}
-use Rattle.rules.proofs.Narrows.{Narrower, narrower-self, narrower-then}
-use Rattle.promises.specs.Narrowings.{Narrow, place, bar, raiseLowCredits, lowerHighCredits, raiseLowCount, lowerHighCount, narrow, Meets, NoLooser}
+use Rattle.rules.specs.Narrower.{Narrower}
+use Rattle.rules.proofs.Narrows.{narrower-self, narrower-then}
+use Rattle.promises.specs.Narrowings.{Narrow, place, bar, raiseLowCredits, lowerHighCredits, raiseLowCount, lowerHighCount, narrow, Meets}
 use Rattle.promises.specs.Sequence.{Call, narrowBy, filter, writeAndRead, result, readBack, after, Asks, MeetsAll, PlanThatMeets}
 use Rattle.promises.specs.OnePlacing.{thePlacing}
-use Rattle.promises.proofs.Narrowings.{no-looser-of, each-narrowing, narrow-narrower}
+use Rattle.promises.proofs.Narrowings.{each-narrowing, narrow-narrower}
 use Rattle.promises.proofs.RoundsKept.{filter-kept}
 use Rattle.promises.proofs.SettledPlan.{settled-one}
 use Rattle.promises.proofs.RoundTrip.{wrote}
@@ -90,11 +91,8 @@ plans-after first (c ∷ cs) y w p =
     )
 
 module _ (first : Year) (calls : List Call) (s : Sound first) where
-  sequence-narrower : Narrower first (after calls first)
+  pub sequence-narrower : Narrower first (after calls first)
   sequence-narrower = narrower-after first calls first (narrower-self first s)
-
-  pub sequence-no-looser : NoLooser first (after calls first)
-  sequence-no-looser = no-looser-of first (after calls first) sequence-narrower
 
   -- for any calls, so also for those made up to any point of a longer sequence
   pub sequence-plans : (p : Placing) → Plan (after calls first) p ↔ PlanThatMeets first calls p

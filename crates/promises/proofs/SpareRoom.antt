@@ -29,7 +29,8 @@ use Rattle.rules.specs.declared.Outcome.{Outcome}
 use Rattle.rules.specs.declared.Until.{Until}
 use Rattle.rules.specs.declared.Until.the-variants as until
 use Rattle.theory.proofs.FoldLaws.{fold-keeps}
-use Rattle.rules.proofs.Narrows.{Narrower, narrower-self, narrower-then, Narrows}
+use Rattle.rules.specs.Narrower.{Narrower}
+use Rattle.rules.proofs.Narrows.{narrower-self, narrower-then, Narrows}
 use Rattle.rules.proofs.Steps.{narrows-4, narrows-5, narrows-6, narrows-7, narrows-8, narrows-9}
 use Rattle.rules.proofs.KeptOver.{AtTerms}
 use Rattle.rules.proofs.Passes.{lawful-part, row-narrower}

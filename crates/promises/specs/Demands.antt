@@ -15,10 +15,11 @@ use Rattle.records.specs.Bytes.{AllBytes}
 use Rattle.records.specs.Numbers.{readingNumber, writingNumber}
 use Rattle.records.specs.Reading.{readList, done}
 use Rattle.records.specs.Writing.{recordsOf, writeAnswer, written}
+use Rattle.rules.specs.Narrower.{Narrower}
 use Rattle.filter.specs.Filter.{filterOf}
 use Rattle.filter.specs.Numbers.{filterNumber, filterRounds, isSettled}
 use Rattle.filter.specs.declared.Filtered.{Filtered}
-use Rattle.promises.specs.Narrowings.{Narrow, narrow, numberDue, NoLooser}
+use Rattle.promises.specs.Narrowings.{Narrow, narrow, numberDue}
 use Rattle.promises.specs.Rounds.{Filtering, Rested}
 use Rattle.promises.specs.Sequence.{Call, filter, result, after, PlanThatMeets}
 use Rattle.promises.specs.OnePlacing.{thePlacing}
@@ -65,7 +66,7 @@ pub record Demand2 : Type 0 where
 pub record Demand3 : Type 0 where
   pub plans-kept : (first : Year) (calls : List Call) → Sound first
       → (p : Placing) → Plan (after calls first) p ↔ PlanThatMeets first calls p
-  pub no-looser : (first : Year) (calls : List Call) → Sound first → NoLooser first (after calls first)
+  pub narrower : (first : Year) (calls : List Call) → Sound first → Narrower first (after calls first)
   pub no-plan-only-where-none : (first : Year) (calls : List Call) → Sound first
       → result filter (after calls first) .number ≡ 13
       → (p : Placing) → PlanThatMeets first calls p → ⊥

@@ -1,17 +1,18 @@
 -- The six narrowings: what each makes of a year, what it asks of a placing, which number it is due; and what is promised of each.
 use Prim.Native.Nat.{ℕ, _^_, _≤_}
-use mathlib.Core.Bool.{Bool, true, false, not, _||_}
+use mathlib.Core.Bool.{Bool, false, not, _||_}
 use mathlib.Core.Logic.{_↔_}
 use mathlib.Core.Path.{_≡_}
 use lib.Dec.{eqb, leb, ltb}
 use Rattle.theory.specs.Choice.{choose}
-use Rattle.year.specs.Year.{courseAt, weight, list, lists, lowCredits, highCredits, lowCount, highCount}
+use Rattle.year.specs.Year.{courseAt, list, lists, lowCredits, highCredits, lowCount, highCount}
 use Rattle.year.specs.Narrow.{placeOf, barOf, raiseLowCreditsOf, lowerHighCreditsOf, raiseLowCountOf, lowerHighCountOf}
 use Rattle.year.specs.Plans.{Placing, creditsIn, countIn, Plan}
 use Rattle.year.specs.Sound.{isSound, Sound}
 use Rattle.year.specs.Numbers.{narrowingNumber}
 use Rattle.year.specs.declared.Year.{Year}
 use Rattle.year.specs.declared.Narrowed.{Narrowed}
+use Rattle.rules.specs.Narrower.{Narrower}
 
 -- ---- the calls
 
@@ -72,22 +73,10 @@ numberDue y n = choose (isSound y) (choose (missing y n) 10 (choose (outside n) 
 
 -- ---- what is promised
 
--- z is a sound year of the terms, courses and weights of y, with no bound looser and no list longer
-pub record NoLooser (y z : Year) : Type 0 where
-  pub sound : Sound z
-  pub terms-same : z .terms ≡ y .terms
-  pub courses-same : z .courses ≡ y .courses
-  pub weight-same : (i : ℕ) → weight z i ≡ weight y i
-  pub low-credits : (k : ℕ) → lowCredits y k ≤ lowCredits z k
-  pub high-credits : (k : ℕ) → highCredits z k ≤ highCredits y k
-  pub low-count : (k : ℕ) → lowCount y k ≤ lowCount z k
-  pub high-count : (k : ℕ) → highCount z k ≤ highCount y k
-  pub lists-less : (i k : ℕ) → lists (courseAt z i) k ≡ true → lists (courseAt y i) k ≡ true
-
 -- r, the answer to the narrowing n of y: of a sound year it hands back that year narrowed; done, the plans of the year handed back are
 -- the plans of y that meet n; refused, it is y; and the number is the one due
 pub record NarrowedBy (y : Year) (n : Narrow) (r : Narrowed) : Type 0 where
-  pub no-looser : Sound y → NoLooser y (r .year)
+  pub narrower : Sound y → Narrower y (r .year)
   pub plans : narrowingNumber (r .answer) ≡ 0 → (p : Placing) → Plan (r .year) p ↔ (Plan y p × Meets y n p)
   pub refused : (narrowingNumber (r .answer) ≡ 0 → ⊥) → r .year ≡ y
   pub number : narrowingNumber (r .answer) ≡ numberDue y n

@@ -4,11 +4,11 @@ use mathlib.Core.Path.{_≡_}
 use Rattle.year.specs.Sound.{Sound}
 use Rattle.year.specs.declared.Year.{Year}
 use Rattle.rules.specs.Round.{round}
+use Rattle.rules.specs.Narrower.{Narrower}
 use Rattle.filter.specs.Filter.{filtered, atRest, filterOf}
 use Rattle.filter.specs.Numbers.{filterRounds}
 use Rattle.filter.specs.declared.Answer.the-variants.{NoPlan}
 use Rattle.filter.specs.declared.Filtered.{Filtered}
-use Rattle.promises.specs.Narrowings.{NoLooser}
 
 -- ---- rounds in a row
 
@@ -39,4 +39,4 @@ pub record Rested (r : Filtered) : Type 0 where
 
 -- of a sound year, that year narrowed
 abbrev pub FilteringNarrows : Type 0
-FilteringNarrows = (y : Year) → Sound y → NoLooser y (filterOf y .year)
+FilteringNarrows = (y : Year) → Sound y → Narrower y (filterOf y .year)

@@ -10,7 +10,7 @@ use Rattle.year.specs.Plans.{Placing, creditsIn, countIn}
 use Rattle.year.specs.Sound.{Sound}
 use Rattle.year.specs.declared.Year.{Year}
 use Rattle.year.proofs.DoorLaws.{weight-same}
-use Rattle.rules.proofs.Narrows.{Narrower}
+use Rattle.rules.specs.Narrower.{Narrower}
 
 pub record Alike (y z : Year) : Type 0 where
   pub terms-same : z .terms ≡ y .terms

@@ -11,7 +11,8 @@ use Rattle.year.specs.Plans.{Placing, Plan}
 use Rattle.year.specs.Sound.{Sound}
 use Rattle.year.specs.declared.Year.{Year}
 use Rattle.rules.specs.Step.{goes, joined, then, live, dead, next, overTo, overTerms, Step}
-use Rattle.rules.proofs.Narrows.{Narrower, narrower-self, narrower-then, Narrows}
+use Rattle.rules.specs.Narrower.{Narrower}
+use Rattle.rules.proofs.Narrows.{narrower-self, narrower-then, Narrows}
 use Rattle.rules.proofs.PlansKept.{PlansKept}
 
 -- nothing is done

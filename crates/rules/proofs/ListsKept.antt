@@ -27,7 +27,8 @@ use Rattle.rules.specs.declared.Verdict.the-variants.{Stays, Struck, Fix
 use Rattle.rules.proofs.Steps.{lawful-3, lawful-10}
 use Rattle.rules.proofs.PlansKept.{PlansKept}
 use Rattle.rules.proofs.KeptOver.{kept-rest, kept-dead, kept-over}
-use Rattle.rules.proofs.Narrows.{Narrower, narrower-self, narrower-then}
+use Rattle.rules.specs.Narrower.{Narrower}
+use Rattle.rules.proofs.Narrows.{narrower-self, narrower-then}
 use Rattle.rules.proofs.DoorPlans.{placed-plans, struck-plans}
 use Rattle.rules.proofs.PlanSums.{open-facts, credits-with, credits-without, count-floor, count-roof, count-with, count-without, count-halves}
 

@@ -12,25 +12,14 @@ use Rattle.theory.specs.Sum.{pick, sum}
 use Rattle.theory.proofs.TestLaws.{or-false}
 use Rattle.theory.proofs.FoldLaws.{fold-keeps}
 use Rattle.theory.specs.Order.{heavier, lighter, order}
-use Rattle.year.specs.Year.{courseAt, weight, lists, lowCredits, highCredits, lowCount, highCount}
+use Rattle.year.specs.Year.{weight, lowCredits, highCredits, lowCount, highCount}
 use Rattle.year.specs.Sums.{allCredits}
 use Rattle.year.specs.Sound.{Sound}
 use Rattle.year.specs.declared.Year.{Year}
+use Rattle.rules.specs.Narrower.{Narrower}
 use Rattle.rules.specs.Step.{Step, dead, goes, joined, then, next, overTo}
 use Rattle.rules.specs.Spares.{down, up}
 use Rattle.rules.proofs.Leeway.{leeway}
-
--- a sound year z of the terms, courses and weights of y, with no bound looser and no list longer
-pub record Narrower (y z : Year) : Type 0 where
-  pub sound : Sound z
-  pub terms-same : z .terms ≡ y .terms
-  pub courses-same : z .courses ≡ y .courses
-  pub weight-same : (i : ℕ) → weight z i ≡ weight y i
-  pub low-credits : (k : ℕ) → lowCredits y k ≤ lowCredits z k
-  pub high-credits : (k : ℕ) → highCredits z k ≤ highCredits y k
-  pub low-count : (k : ℕ) → lowCount y k ≤ lowCount z k
-  pub high-count : (k : ℕ) → highCount z k ≤ highCount y k
-  pub lists-less : (i k : ℕ) → lists (courseAt z i) k ≡ true → lists (courseAt y i) k ≡ true
 
 pub narrower-self : (y : Year) → Sound y → Narrower y y
 narrower-self y s = record {

@@ -18,7 +18,8 @@ use Rattle.rules.specs.Lists.{rule3, rule10}
 use Rattle.rules.specs.Spares.{rule6, rule7, rule8, rule9}
 use Rattle.rules.specs.Packing.{rule11}
 use Rattle.rules.specs.Round.{bounded, once, passes, inRow, passesOf, passesFrom, round}
-use Rattle.rules.proofs.Narrows.{Narrower, narrower-then, Narrows, quiet, narrows-rest, narrows-next, next-dead}
+use Rattle.rules.specs.Narrower.{Narrower}
+use Rattle.rules.proofs.Narrows.{narrower-then, Narrows, quiet, narrows-rest, narrows-next, next-dead}
 use Rattle.rules.proofs.Steps.{narrows-1, narrows-2, narrows-3, narrows-4, narrows-5, narrows-6, narrows-7, narrows-8, narrows-9, narrows-10, narrows-11, narrows-terms}
 use Rattle.rules.proofs.PlansKept.{PlansKept}
 use Rattle.rules.proofs.KeptOver.{kept-rest, kept-next, AtTerms, kept-terms}

@@ -5,5 +5,6 @@ pub mod Lists
 pub mod Spares
 pub mod Packing
 pub mod Round
+pub mod Narrower
 pub mod Computing
 pub mod Examples
