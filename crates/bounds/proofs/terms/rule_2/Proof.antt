@@ -22,7 +22,10 @@ outcome-requires : tie.Need-outcome-requires
 outcome-requires c κs = search needs
 
 returns : tie.Need-returns
-returns c = cc
+returns c =
+    let w = c .before in
+    let l = w .before in
+    rw (w .credits-within .ensures, l .less4 .ensures, l .before .less3 .ensures, l .before .before .less2 .ensures, l .before .before .before .less .ensures) at (c .outcome .ensures)
 
 pub rule-2-spec : {M : Type 1} → statement M
 rule-2-spec =
