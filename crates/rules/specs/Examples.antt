@@ -1,4 +1,5 @@
--- Rules by themselves, by computation: rows 6 to 9 of the paper's table, and its traps at the rule they are about.
+-- Rules by themselves, by computation: rows 6 to 9 of the paper's table, each rule at a small term, and the paper's traps at the
+-- rule they are about.
 use Prim.Native.Nat.{ℕ, _+_, _/_}
 use mathlib.Core.List.{List, [], _∷_, _++_}
 use mathlib.Core.Path.{_≡_, refl}
@@ -8,8 +9,9 @@ use Rattle.theory.specs.Largest.{largest}
 use Rattle.year.specs.declared.Term.{Term}
 use Rattle.year.specs.declared.Course.{Course}
 use Rattle.year.specs.declared.Year.{Year}
-use Rattle.rules.specs.Lists.{rule3}
-use Rattle.rules.specs.Spares.{rule6, rule7}
+use Rattle.rules.specs.Bounds.{rule1, rule2, rule4, rule5}
+use Rattle.rules.specs.Lists.{rule3, rule10}
+use Rattle.rules.specs.Spares.{rule6, rule7, rule8, rule9}
 use Rattle.rules.specs.Packing.{room, shares, roundedUp}
 use Rattle.rules.specs.Round.{round}
 use Rattle.rules.specs.Computing.{computing}
@@ -68,6 +70,65 @@ row8 = refl
 row9 : largestQuotient (three 5) ≡ 2
 unfolding computing
 row9 = refl
+
+-- ---- each rule at term 0 of a small year: what a version that is off by a little would not give
+
+-- two terms of 0 to 9 credits, the first with other bounds, and the courses of the year
+abbrev pub beside : Term → List Course → Year
+beside t cs = yearOf (t ∷ termOf 0 9 0 2 ∷ []) cs
+
+-- a course of 4 credits that is fixed in term 0 and one of 3 that is open; and both open
+abbrev pub fixedAndOpen : List Course
+fixedAndOpen = courseOf 4 1 ∷ courseOf 3 3 ∷ []
+
+abbrev pub bothOpen : List Course
+bothOpen = courseOf 4 3 ∷ courseOf 3 3 ∷ []
+
+-- low credits are raised to what is fixed, not to what is possible; and so the low count
+own-1 : rule1 (beside (termOf 0 9 0 2) fixedAndOpen) 0 .term .low .0 ≡ 4
+unfolding computing
+own-1 = refl
+
+own-4 : rule4 (beside (termOf 0 9 0 2) fixedAndOpen) 0 .term .least .0 ≡ 1
+unfolding computing
+own-4 = refl
+
+-- low credits by the others' high credits, the high count by the others' low count
+others-2 : rule2 (yearOf (termOf 0 9 0 2 ∷ termOf 0 5 0 2 ∷ []) bothOpen) 0 .term .low .0 ≡ 2
+unfolding computing
+others-2 = refl
+
+others-5 : rule5 (yearOf (termOf 0 9 0 2 ∷ termOf 0 9 1 2 ∷ []) bothOpen) 0 .term .most .0 ≡ 1
+unfolding computing
+others-5 = refl
+
+-- a course that just fits stays on the list, and is counted
+fits-3 : list (rule3 (beside (termOf 0 4 0 2) (courseOf 4 3 ∷ [])) 0 .year) 0 ≡ 3
+unfolding computing
+fits-3 = refl
+
+fits-7 : rule7 (beside (termOf 0 4 0 2) (courseOf 4 3 ∷ [])) 0 .term .most .0 ≡ 1
+unfolding computing
+fits-7 = refl
+
+-- the least load has the lightest course; the most load as many as the high count lets in
+load-8 : rule8 (beside (termOf 0 9 1 2) bothOpen) 0 .term .low .0 ≡ 3
+unfolding computing
+load-8 = refl
+
+load-9 : rule9 (beside (termOf 0 9 0 1) bothOpen) 0 .term .high .0 ≡ 4
+unfolding computing
+load-9 = refl
+
+-- a term needs all that list it, the fixed ones counted
+needs-10 : list (rule10 (beside (termOf 0 9 2 2) fixedAndOpen) 0 .year) 1 ≡ 1
+unfolding computing
+needs-10 = refl
+
+-- what is fixed in another term is not taken from what it can spare
+spares-6 : leastCount (yearOf (atLeast 3 0 ∷ atLeast 0 1 ∷ []) (courseOf 3 3 ∷ courseOf 2 2 ∷ [])) ≡ 1
+unfolding computing
+spares-6 = refl
 
 -- ---- traps; that a course charges every other term that lists it is row 7
 
