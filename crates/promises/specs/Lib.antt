@@ -10,4 +10,5 @@ pub mod OnePlacing
 pub mod ImbalancePlan
 pub mod SpareRoom
 pub mod Boundary
+pub mod Refusals
 pub mod Promises
