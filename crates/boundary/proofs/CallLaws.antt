@@ -12,7 +12,7 @@ use Rattle.records.specs.declared.Received.{Received}
 use Rattle.records.specs.Reading.{readList, done}
 use Rattle.records.proofs.ListLaws.{read-front, list-read, read-sound}
 use Rattle.filter.specs.Filter.{filterOf}
-use Rattle.boundary.specs.Packed.{readingCode, shortCode, narrowingCode, measuredCode, answerCode}
+use Rattle.boundary.specs.Packed.{packed, readingTold, shortTold, narrowingTold, measuredTold, answerTold}
 use Rattle.boundary.specs.Calls.{readCode, imbalanceCode, filterLeft, filterCode, filterOut, narrowOf, narrowLeft, narrowCode, narrowOut}
 
 module _ (s : List ℕ) (got : Received) (is : got ≡ readList s) where
@@ -24,39 +24,39 @@ module _ (s : List ℕ) (got : Received) (is : got ≡ readList s) where
       let f = read-front s (length s / 16) (got .year) (l .2) in
       (read-sound s (got .year) e, ap (λ k. k * 16) (f .count) ∙ l .1)
 
-  pub read-ends : (r : ℕ) → r ≡ readingCode (got .answer) → r ≡ readCode s
+  pub read-ends : (r : ℕ) → r ≡ packed (readingTold (got .answer)) → r ≡ readCode s
   unfolding readCode
   read-ends r e = rw (sym is) e
 
-  pub imbalance-refused : (f : Fault) (k : ℕ) → got .answer ≡ Refused f k → (r : ℕ) → r ≡ readingCode (Refused f k) → r ≡ imbalanceCode s
+  pub imbalance-refused : (f : Fault) (k : ℕ) → got .answer ≡ Refused f k → (r : ℕ) → r ≡ packed (readingTold (Refused f k)) → r ≡ imbalanceCode s
   unfolding imbalanceCode
   imbalance-refused f k a r e = rw (sym is, a) e
 
-  pub imbalance-done : got .answer ≡ Done → (r : ℕ) → r ≡ measuredCode (imbalanceOf (got .year)) → r ≡ imbalanceCode s
+  pub imbalance-done : got .answer ≡ Done → (r : ℕ) → r ≡ packed (measuredTold (imbalanceOf (got .year))) → r ≡ imbalanceCode s
   unfolding imbalanceCode
   imbalance-done a r e = rw (sym is, a) e
 
-  pub filter-refused : (b : List ℕ) (f : Fault) (k : ℕ) → got .answer ≡ Refused f k → (r : ℕ) → r ≡ readingCode (Refused f k) → (r ≡ filterCode s (length b)) × (b ≡ filterOut s b)
+  pub filter-refused : (b : List ℕ) (f : Fault) (k : ℕ) → got .answer ≡ Refused f k → (r : ℕ) → r ≡ packed (readingTold (Refused f k)) → (r ≡ filterCode s (length b)) × (b ≡ filterOut s b)
   unfolding filterCode filterOut
   filter-refused b f k a r e = (rw (sym is, a) e, rw (sym is, a) refl)
 
-  pub filter-short : (b : List ℕ) → got .answer ≡ Done → length b < length s → (shortCode ≡ filterCode s (length b)) × (b ≡ filterOut s b)
+  pub filter-short : (b : List ℕ) → got .answer ≡ Done → length b < length s → (packed shortTold ≡ filterCode s (length b)) × (b ≡ filterOut s b)
   unfolding filterCode filterOut
   filter-short b a h = (rw (sym is, a, lt-ltb (length b) (length s) h) refl, rw (sym is, a, lt-ltb (length b) (length s) h) refl)
 
-  pub filter-done : (b : List ℕ) → got .answer ≡ Done → length s ≤ length b → (r : ℕ) (o : List ℕ) → r ≡ answerCode (filterOf (got .year) .answer) → o ≡ filterLeft (filterOf (got .year) .answer) (filterOf (got .year) .year) b → (r ≡ filterCode s (length b)) × (o ≡ filterOut s b)
+  pub filter-done : (b : List ℕ) → got .answer ≡ Done → length s ≤ length b → (r : ℕ) (o : List ℕ) → r ≡ packed (answerTold (filterOf (got .year) .answer)) → o ≡ filterLeft (filterOf (got .year) .answer) (filterOf (got .year) .year) b → (r ≡ filterCode s (length b)) × (o ≡ filterOut s b)
   unfolding filterCode filterOut
   filter-done b a h r o e w = (rw (sym is, a, le-ltb (length b) (length s) h) e, rw (sym is, a, le-ltb (length b) (length s) h) w)
 
   module _ (kind i j : ℕ) where
-    pub narrow-refused : (b : List ℕ) (f : Fault) (k : ℕ) → got .answer ≡ Refused f k → (r : ℕ) → r ≡ readingCode (Refused f k) → (r ≡ narrowCode s kind i j (length b)) × (b ≡ narrowOut s kind i j b)
+    pub narrow-refused : (b : List ℕ) (f : Fault) (k : ℕ) → got .answer ≡ Refused f k → (r : ℕ) → r ≡ packed (readingTold (Refused f k)) → (r ≡ narrowCode s kind i j (length b)) × (b ≡ narrowOut s kind i j b)
     unfolding narrowCode narrowOut
     narrow-refused b f k a r e = (rw (sym is, a) e, rw (sym is, a) refl)
 
-    pub narrow-short : (b : List ℕ) → got .answer ≡ Done → length b < length s → (shortCode ≡ narrowCode s kind i j (length b)) × (b ≡ narrowOut s kind i j b)
+    pub narrow-short : (b : List ℕ) → got .answer ≡ Done → length b < length s → (packed shortTold ≡ narrowCode s kind i j (length b)) × (b ≡ narrowOut s kind i j b)
     unfolding narrowCode narrowOut
     narrow-short b a h = (rw (sym is, a, lt-ltb (length b) (length s) h) refl, rw (sym is, a, lt-ltb (length b) (length s) h) refl)
 
-    pub narrow-done : (b : List ℕ) → got .answer ≡ Done → length s ≤ length b → (r : ℕ) (o : List ℕ) → r ≡ narrowingCode (narrowOf (got .year) kind i j .answer) → o ≡ narrowLeft (narrowOf (got .year) kind i j .answer) (narrowOf (got .year) kind i j .year) b → (r ≡ narrowCode s kind i j (length b)) × (o ≡ narrowOut s kind i j b)
+    pub narrow-done : (b : List ℕ) → got .answer ≡ Done → length s ≤ length b → (r : ℕ) (o : List ℕ) → r ≡ packed (narrowingTold (narrowOf (got .year) kind i j .answer)) → o ≡ narrowLeft (narrowOf (got .year) kind i j .answer) (narrowOf (got .year) kind i j .year) b → (r ≡ narrowCode s kind i j (length b)) × (o ≡ narrowOut s kind i j b)
     unfolding narrowCode narrowOut
     narrow-done b a h r o e w = (rw (sym is, a, le-ltb (length b) (length s) h) e, rw (sym is, a, le-ltb (length b) (length s) h) w)

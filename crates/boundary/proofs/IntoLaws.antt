@@ -10,13 +10,13 @@ use Rattle.filter.specs.Filter.{filterOf}
 use Rattle.filter.specs.declared.Answer.{Answer}
 use Rattle.filter.specs.declared.Filtered.{Filtered}
 use Rattle.filter.proofs.RoundLaws.{filter-narrower}
-use Rattle.boundary.specs.Packed.{answerCode, narrowingCode}
+use Rattle.boundary.specs.Packed.{packed, narrowingTold, answerTold}
 use Rattle.boundary.specs.Calls.{filterLeft, narrowOf, narrowLeft}
 
-module _ (y : Year) (f : Filtered) (is : f ≡ filterOf y) (r : ℕ) (code : r ≡ answerCode (f .answer)) (b o : List ℕ) where
+module _ (y : Year) (f : Filtered) (is : f ≡ filterOf y) (r : ℕ) (code : r ≡ packed (answerTold (f .answer))) (b o : List ℕ) where
   -- what an answer a, once known, leaves in the buffer
   pub filter-ends : (a : Answer) → f .answer ≡ a → o ≡ filterLeft a (f .year) b
-      → (r ≡ answerCode (filterOf y .answer)) × (o ≡ filterLeft (filterOf y .answer) (filterOf y .year) b)
+      → (r ≡ packed (answerTold (filterOf y .answer))) × (o ≡ filterLeft (filterOf y .answer) (filterOf y .year) b)
   filter-ends a e w =
       (rw (sym is) code, rw (sym is) (w ∙ ap (λ (x : Answer). filterLeft x (f .year) b) (sym e)))
 
@@ -26,8 +26,8 @@ filtered-fits y f is s room h =
     let a = filter-narrower y s in
     rw is (a .sound, rw (a .terms-same, a .courses-same) h)
 
-module _ (y : Year) (kind i j : ℕ) (n : Narrowed) (is : n ≡ narrowOf y kind i j) (r : ℕ) (code : r ≡ narrowingCode (n .answer)) (b o : List ℕ) where
+module _ (y : Year) (kind i j : ℕ) (n : Narrowed) (is : n ≡ narrowOf y kind i j) (r : ℕ) (code : r ≡ packed (narrowingTold (n .answer))) (b o : List ℕ) where
   pub narrow-ends : (a : Narrowing) → n .answer ≡ a → o ≡ narrowLeft a (n .year) b
-      → (r ≡ narrowingCode (narrowOf y kind i j .answer)) × (o ≡ narrowLeft (narrowOf y kind i j .answer) (narrowOf y kind i j .year) b)
+      → (r ≡ packed (narrowingTold (narrowOf y kind i j .answer))) × (o ≡ narrowLeft (narrowOf y kind i j .answer) (narrowOf y kind i j .year) b)
   narrow-ends a e w =
       (rw (sym is) code, rw (sym is) (w ∙ ap (λ (x : Narrowing). narrowLeft x (n .year) b) (sym e)))

@@ -1,4 +1,4 @@
--- The calls on byte lists: what each answers and what it leaves in the lent buffer.
+-- The calls on byte lists: what each tells, its code, and what it leaves in the lent buffer.
 -- Refusals come in rising number: reading's, then 9, then the call's own.
 use Prim.Native.Nat.{ℕ}
 use mathlib.Core.List.{List}
@@ -18,12 +18,16 @@ use Rattle.records.specs.declared.Reading.the-variants as reading
 use Rattle.filter.specs.Filter.{filterOf}
 use Rattle.filter.specs.declared.Answer.{Answer}
 use Rattle.filter.specs.declared.Answer.the-variants.{Settled, Open, NoPlan, Unsound}
-use Rattle.boundary.specs.Packed.{readingCode, shortCode, narrowingCode, measuredCode, answerCode}
+use Rattle.boundary.specs.Packed.{Told, packed, readingTold, shortTold, narrowingTold, measuredTold, answerTold}
 
--- a call's own answer where the list was read, otherwise reading's
-abbrev pub whenRead : Reading → ℕ → ℕ
+-- what a call itself tells where the list was read, otherwise what reading tells
+abbrev pub whenRead : Reading → Told → Told
 whenRead reading.Done own = own
-whenRead (reading.Refused f k) own = readingCode (reading.Refused f k)
+whenRead (reading.Refused f k) own = readingTold (reading.Refused f k)
+
+-- the same for a call that wants a buffer of `room` bytes for a list of n: it may be short
+abbrev pub whenRoom : ℕ → ℕ → Told → Told
+whenRoom room n own = choose (ltb room n) shortTold own
 
 -- what a call leaves in the buffer b where the list was read, otherwise b
 abbrev pub leftWhenRead : Reading → List ℕ → List ℕ → List ℕ
@@ -32,11 +36,17 @@ leftWhenRead (reading.Refused f k) own b = b
 
 -- ---- read, and imbalance
 
+abbrev pub readTold : List ℕ → Told
+readTold s = readingTold (readList s .answer)
+
 unfoldable pub readCode : List ℕ → ℕ
-readCode s = readingCode (readList s .answer)
+readCode s = packed (readTold s)
+
+abbrev pub imbalanceTold : List ℕ → Told
+imbalanceTold s = whenRead (readList s .answer) (measuredTold (imbalanceOf (readList s .year)))
 
 unfoldable pub imbalanceCode : List ℕ → ℕ
-imbalanceCode s = whenRead (readList s .answer) (measuredCode (imbalanceOf (readList s .year)))
+imbalanceCode s = packed (imbalanceTold s)
 
 -- ---- filter
 
@@ -48,9 +58,11 @@ filterLeft (NoPlan r n) z b = b
 filterLeft Unsound z b = b
 
 -- the list and the length of the buffer
+abbrev pub filterTold : List ℕ → ℕ → Told
+filterTold s room = whenRead (readList s .answer) (whenRoom room (length s) (answerTold (filterOf (readList s .year) .answer)))
+
 unfoldable pub filterCode : List ℕ → ℕ → ℕ
-filterCode s room =
-    whenRead (readList s .answer) (choose (ltb room (length s)) shortCode (answerCode (filterOf (readList s .year) .answer)))
+filterCode s room = packed (filterTold s room)
 
 -- the list and the buffer
 unfoldable pub filterOut : List ℕ → List ℕ → List ℕ
@@ -80,9 +92,12 @@ narrowLeft narrowing.Missing z b = b
 narrowLeft narrowing.Outside z b = b
 narrowLeft narrowing.Crossing z b = b
 
+abbrev pub narrowTold : List ℕ → ℕ → ℕ → ℕ → ℕ → Told
+narrowTold s kind a b room =
+    whenRead (readList s .answer) (whenRoom room (length s) (narrowingTold (narrowOf (readList s .year) kind a b .answer)))
+
 unfoldable pub narrowCode : List ℕ → ℕ → ℕ → ℕ → ℕ → ℕ
-narrowCode s kind a b room =
-    whenRead (readList s .answer) (choose (ltb room (length s)) shortCode (narrowingCode (narrowOf (readList s .year) kind a b .answer)))
+narrowCode s kind a b room = packed (narrowTold s kind a b room)
 
 unfoldable pub narrowOut : List ℕ → ℕ → ℕ → ℕ → List ℕ → List ℕ
 narrowOut s kind a b out =

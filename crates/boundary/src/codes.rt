@@ -10,7 +10,7 @@ ghost use Prim.Native.Nat.{_<_};
 ghost use Rattle.year.specs.Imbalance.{imbalanceOf};
 ghost use Rattle.records.specs.Numbers.{readingPlace};
 ghost use Rattle.records.specs.declared.Reading.the-variants as reading;
-ghost use Rattle.boundary.specs.Packed.{packed, readingCode, narrowingCode, measuredCode, answerCode};
+ghost use Rattle.boundary.specs.Packed.{told, packed, readingTold, narrowingTold, measuredTold, answerTold};
 
 // The answer to a buffer that is too short.
 pub const SHORT: u64 = 9;
@@ -18,7 +18,7 @@ pub const SHORT: u64 = 9;
 // Number, detail and value in one.
 fn pack(number: u64, detail: u32, value: u64) -> u64
     requires { ⌜ (number < 256) × (value < 4294967296) ⌝ }
-    ensures { λ r. ⌜ r ≡ packed number detail value ⌝ }
+    ensures { λ r. ⌜ r ≡ packed (told number detail value) ⌝ }
 {
     number + detail as u64 * 256 + value * 65536
 }
@@ -26,14 +26,14 @@ fn pack(number: u64, detail: u32, value: u64) -> u64
 // A refused list.
 pub fn refused(f: Fault, k: usize) -> u64
     requires { ⌜ k < 4294967296 ⌝ }
-    ensures { λ r. ⌜ r ≡ readingCode (reading.Refused f k) ⌝ }
+    ensures { λ r. ⌜ r ≡ packed (readingTold (reading.Refused f k)) ⌝ }
 {
     pack(records::fault_number(f) as u64, 0, k as u64)
 }
 
 pub fn reading(a: Reading) -> u64
     requires { ⌜ readingPlace a < 4294967296 ⌝ }
-    ensures { λ r. ⌜ r ≡ readingCode a ⌝ }
+    ensures { λ r. ⌜ r ≡ packed (readingTold a) ⌝ }
 {
     match a {
         Reading::Done => 0,
@@ -42,7 +42,7 @@ pub fn reading(a: Reading) -> u64
 }
 
 pub fn narrowing(a: Narrowing) -> u64
-    ensures { λ r. ⌜ r ≡ narrowingCode a ⌝ }
+    ensures { λ r. ⌜ r ≡ packed (narrowingTold a) ⌝ }
 {
     match a {
         Narrowing::Done => 0,
@@ -54,7 +54,7 @@ pub fn narrowing(a: Narrowing) -> u64
 }
 
 pub fn imbalance(y: Year) -> u64
-    ensures { λ r. ⌜ r ≡ measuredCode (imbalanceOf y) ⌝ }
+    ensures { λ r. ⌜ r ≡ packed (measuredTold (imbalanceOf y)) ⌝ }
 {
     let m = totals::measure::imbalance(y);
     match m {
@@ -65,7 +65,7 @@ pub fn imbalance(y: Year) -> u64
 }
 
 pub fn answer(a: Answer) -> u64
-    ensures { λ r. ⌜ r ≡ answerCode a ⌝ }
+    ensures { λ r. ⌜ r ≡ packed (answerTold a) ⌝ }
 {
     match a {
         Answer::Settled(n) => pack(0, 1, n as u64),

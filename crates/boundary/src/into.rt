@@ -11,14 +11,14 @@ ghost use Prim.Native.Nat.{_+_, _*_, _≤_};
 ghost use lib.ListN.{length};
 ghost use Rattle.year.specs.Sound.{Sound};
 ghost use Rattle.filter.specs.Filter.{filterOf};
-ghost use Rattle.boundary.specs.Packed.{answerCode, narrowingCode};
+ghost use Rattle.boundary.specs.Packed.{packed, narrowingTold, answerTold};
 ghost use Rattle.boundary.specs.Calls.{filterLeft, narrowOf, narrowLeft};
 
 // Filters a year that was read into a list as long as the one that it was read from.
 pub fn filter_into(y: Year, out: &mut [u8]) -> u64
     requires { ⌜ Sound y ⌝ }
     requires { ⌜ (y .terms + y .courses) * 16 ≤ length (now out) ⌝ }
-    ensures { λ r. ⌜ r ≡ answerCode (filterOf y .answer) ⌝ }
+    ensures { λ r. ⌜ r ≡ packed (answerTold (filterOf y .answer)) ⌝ }
     ensures { λ _. ⌜ now (out .exit) ≡ filterLeft (filterOf y .answer) (filterOf y .year) (now (out .entry)) ⌝ }
 {
     let f = filter::filter_sound(y);
@@ -68,7 +68,7 @@ fn narrow_by(y: Year, kind: u32, a: u32, b: u32) -> Narrowed
 }
 
 pub fn narrow_into(y: Year, kind: u32, a: u32, b: u32, out: &mut [u8]) -> u64
-    ensures { λ r. ⌜ r ≡ narrowingCode (narrowOf y kind a b .answer) ⌝ }
+    ensures { λ r. ⌜ r ≡ packed (narrowingTold (narrowOf y kind a b .answer)) ⌝ }
     ensures { λ _. ⌜ now (out .exit) ≡ narrowLeft (narrowOf y kind a b .answer) (narrowOf y kind a b .year) (now (out .entry)) ⌝ }
 {
     let n = narrow_by(y, kind, a, b);

@@ -1,6 +1,6 @@
 -- `codes::answer`: each arm packs what its case holds.
 use mathlib.Core.Path.{sym, ap, _∙_}
-use Rattle.boundary.specs.Packed.{answerCode}
+use Rattle.boundary.specs.Packed.{packed, answerTold}
 use borrow.Author.Needs.{needs}
 use Rattle.boundary.proofs.codes.answer.Statement.{statement}
 use Rattle.boundary.proofs.codes.answer.Tie as tie
@@ -36,16 +36,16 @@ enum-told : tie.Need-enum-told
 enum-told c = search needs
 
 returns : tie.Need-returns
-returns c = c .pack .ensures ∙ sym (ap answerCode (c .before .before .a .given .1))
+returns c = c .pack .ensures ∙ sym (ap (λ a. packed (answerTold a)) (c .before .before .a .given .1))
 
 returns-2 : tie.Need-returns-2
-returns-2 c = c .pack2 .ensures ∙ sym (ap answerCode (c .before .before .a2 .given .1))
+returns-2 c = c .pack2 .ensures ∙ sym (ap (λ a. packed (answerTold a)) (c .before .before .a2 .given .1))
 
 returns-3 : tie.Need-returns-3
-returns-3 c = c .pack3 .ensures ∙ sym (ap answerCode (c .before .before .a3 .given .1))
+returns-3 c = c .pack3 .ensures ∙ sym (ap (λ a. packed (answerTold a)) (c .before .before .a3 .given .1))
 
 returns-4 : tie.Need-returns-4
-returns-4 c = search needs
+returns-4 c = sym (ap (λ a. packed (answerTold a)) (c .enum-told .given .1))
 
 pub answer-spec : {M : Type 1} → statement M
 answer-spec =

@@ -1,6 +1,6 @@
 -- `codes::imbalance`: each arm packs what its case holds; an imbalance is small.
 use mathlib.Core.Path.{sym, ap, _∙_}
-use Rattle.boundary.specs.Packed.{measuredCode}
+use Rattle.boundary.specs.Packed.{packed, measuredTold}
 use Rattle.boundary.proofs.SmallLaws.{imbalance-small}
 use borrow.Author.Needs.{needs}
 use Rattle.boundary.proofs.codes.imbalance.Statement.{statement}
@@ -22,13 +22,13 @@ enum-told-2 : tie.Need-enum-told-2
 enum-told-2 c = search needs
 
 returns : tie.Need-returns
-returns c = c .pack .ensures ∙ sym (ap measuredCode (sym (c .before .before .before .before .imbalance .ensures) ∙ c .before .before .m .given .1))
+returns c = c .pack .ensures ∙ sym (ap (λ a. packed (measuredTold a)) (sym (c .before .before .before .before .imbalance .ensures) ∙ c .before .before .m .given .1))
 
 returns-2 : tie.Need-returns-2
-returns-2 c = sym (ap measuredCode (sym (c .before .before .imbalance .ensures) ∙ c .enum-told .given .1))
+returns-2 c = sym (ap (λ a. packed (measuredTold a)) (sym (c .before .before .imbalance .ensures) ∙ c .enum-told .given .1))
 
 returns-3 : tie.Need-returns-3
-returns-3 c = sym (ap measuredCode (sym (c .before .before .imbalance .ensures) ∙ c .enum-told2 .given .1))
+returns-3 c = sym (ap (λ a. packed (measuredTold a)) (sym (c .before .before .imbalance .ensures) ∙ c .enum-told2 .given .1))
 
 pub imbalance-spec : {M : Type 1} → statement M
 imbalance-spec =

@@ -1,7 +1,7 @@
 -- `codes::narrowing`: each arm returns the number of its case.
 use mathlib.Core.Path.{sym, ap}
 use borrow.Author.Needs.{needs}
-use Rattle.boundary.specs.Packed.{narrowingCode}
+use Rattle.boundary.specs.Packed.{packed, narrowingTold}
 use Rattle.boundary.proofs.codes.narrowing.Statement.{statement}
 use Rattle.boundary.proofs.codes.narrowing.Tie as tie
 
@@ -21,19 +21,19 @@ enum-told-5 : tie.Need-enum-told-5
 enum-told-5 c = search needs
 
 returns : tie.Need-returns
-returns c = sym (ap narrowingCode (c .enum-told .given .1))
+returns c = sym (ap (λ a. packed (narrowingTold a)) (c .enum-told .given .1))
 
 returns-2 : tie.Need-returns-2
-returns-2 c = sym (ap narrowingCode (c .enum-told2 .given .1))
+returns-2 c = sym (ap (λ a. packed (narrowingTold a)) (c .enum-told2 .given .1))
 
 returns-3 : tie.Need-returns-3
-returns-3 c = sym (ap narrowingCode (c .enum-told3 .given .1))
+returns-3 c = sym (ap (λ a. packed (narrowingTold a)) (c .enum-told3 .given .1))
 
 returns-4 : tie.Need-returns-4
-returns-4 c = sym (ap narrowingCode (c .enum-told4 .given .1))
+returns-4 c = sym (ap (λ a. packed (narrowingTold a)) (c .enum-told4 .given .1))
 
 returns-5 : tie.Need-returns-5
-returns-5 c = sym (ap narrowingCode (c .enum-told5 .given .1))
+returns-5 c = sym (ap (λ a. packed (narrowingTold a)) (c .enum-told5 .given .1))
 
 pub narrowing-spec : {M : Type 1} → statement M
 narrowing-spec =
