@@ -14,4 +14,5 @@ pub mod ListsKept
 pub mod SparesKept
 pub mod PackingKept
 pub mod Passes
+pub mod Named
 pub mod Rest

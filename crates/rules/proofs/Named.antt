@@ -1,0 +1,155 @@
+-- The rule that a no plan names is the one that found it: pass k of a round names rule k alone, so a round names none past the last.
+use Prim.Native.Nat.{ℕ, zero, suc, _+_, _/_, _≤_}
+use mathlib.Core.Bool.{Bool, _||_}
+use mathlib.Core.List.{List, [], _∷_}
+use mathlib.Core.Logic.{_⊎_, inl, inr}
+use mathlib.Core.Path.{_≡_, refl, sym, subst}
+use native.Mathlib.Omega.{arith}
+use lib.Dec.{eqb, ltb}
+use lib.ListN.{length}
+use Rattle.theory.specs.Choice.{choose}
+use Rattle.theory.specs.Tests.{any}
+use Rattle.theory.proofs.ChoiceLaws.{choose-case}
+use Rattle.theory.proofs.FoldLaws.{fold-keeps}
+use Rattle.year.specs.Year.{termAt, courseAt, lowCount, highCount}
+use Rattle.year.specs.Sums.{fixedCredits, possibleCredits, fixedCount, openCount}
+use Rattle.year.specs.declared.Term.{Term}
+use Rattle.year.specs.declared.Tight.{Tight}
+use Rattle.year.specs.declared.Year.{Year}
+use Rattle.rules.specs.declared.Outcome.{Outcome}
+use Rattle.rules.specs.declared.Verdict.{Verdict}
+use Rattle.rules.specs.declared.Verdict.the-variants.{Stays, Struck, Fixed}
+use Rattle.rules.specs.Step.{goes, then, live, dead, outcome, judged, overTo, joined, Step}
+use Rattle.rules.specs.Bounds.{rule1, rule2, rule4, rule5}
+use Rattle.rules.specs.Lists.{verdict3, rule3, rule3Course, full, needed, verdict10, rule10, rule10Course}
+use Rattle.rules.specs.Spares.{rule6, rule7, rule8, rule9}
+use Rattle.rules.specs.Packing.{burst, room, bursts, rule11}
+use Rattle.rules.specs.Round.{bounded, passes, inRow, round}
+use Rattle.rules.proofs.Passes.{Pass, Each, _also_, lawful}
+
+-- ---- at a term
+
+-- no plan, if any, is by rule r
+abbrev pub By : ℕ → ℕ → Type 0
+By r named = (named ≡ 0) ⊎ (named ≡ r)
+
+outcome-by : (r : ℕ) (fails : Bool) (t : Term) (w : Tight) → By r (outcome r fails t w .rule)
+unfolding outcome
+outcome-by r fails t w = choose-case (λ (o : Outcome). By r (o .rule)) (fails || w .crossed) _ _ (λ e. inr refl) (λ e. inl refl)
+
+judged-by : (r : ℕ) (y : Year) (i j : ℕ) (v : Verdict) → By r (judged y i j v .rule)
+judged-by r y i j Stays = inl refl
+judged-by r y i j Struck = inl refl
+judged-by r y i j Fixed = inl refl
+
+choose-by : (r : ℕ) (b : Bool) (s t : Step) → By r (s .rule) → By r (t .rule) → By r (choose b s t .rule)
+choose-by r b s t x z = choose-case (λ (u : Step). By r (u .rule)) b s t (λ e. x) (λ e. z)
+
+over-by : (r : ℕ) (f : Year → ℕ → Step) → ((y : Year) (k : ℕ) → By r (f y k .rule)) → (y : Year) (n : ℕ) → By r (overTo f (live y) n .rule)
+over-by r f h y n = fold-keeps goes (then f) (live y) (λ (s : Step). By r (s .rule)) n (λ z k l g b. h (z .year) k) (inl refl)
+
+-- ---- each pass
+
+abbrev pub Names : ℕ → (Step → Step) → Type 0
+Names r p = (y : Year) → By r (p (live y) .rule)
+
+by-1 : (y : Year) (j : ℕ) → By 1 (bounded rule1 y j .rule)
+unfolding rule1
+by-1 y j = outcome-by 1 _ _ _
+
+by-2 : (y : Year) (j : ℕ) → By 2 (bounded rule2 y j .rule)
+unfolding rule2
+by-2 y j = outcome-by 2 _ _ _
+
+course-3 : (j : ℕ) (y : Year) (i : ℕ) → By 3 (rule3Course j y i .rule)
+unfolding rule3Course
+course-3 j y i = judged-by 3 y i j (verdict3 (courseAt y i) (termAt y j) (fixedCredits y j) (possibleCredits y j) j)
+
+by-3 : (y : Year) (j : ℕ) → By 3 (rule3 y j .rule)
+unfolding rule3
+by-3 y j = over-by 3 (rule3Course j) (course-3 j) y (y .courses)
+
+by-4 : (y : Year) (j : ℕ) → By 4 (bounded rule4 y j .rule)
+unfolding rule4
+by-4 y j = outcome-by 4 _ _ _
+
+by-5 : (y : Year) (j : ℕ) → By 5 (bounded rule5 y j .rule)
+unfolding rule5
+by-5 y j = outcome-by 5 _ _ _
+
+by-6 : (y : Year) (j : ℕ) → By 6 (bounded rule6 y j .rule)
+unfolding rule6
+by-6 y j = outcome-by 6 _ _ _
+
+by-7 : (y : Year) (j : ℕ) → By 7 (bounded rule7 y j .rule)
+unfolding rule7
+by-7 y j = outcome-by 7 _ _ _
+
+by-8 : (y : Year) (j : ℕ) → By 8 (bounded rule8 y j .rule)
+unfolding rule8
+by-8 y j = outcome-by 8 _ _ _
+
+by-9 : (y : Year) (j : ℕ) → By 9 (bounded rule9 y j .rule)
+unfolding rule9
+by-9 y j = outcome-by 9 _ _ _
+
+course-10 : (isFull isNeeded : Bool) (j : ℕ) (y : Year) (i : ℕ) → By 10 (rule10Course isFull isNeeded j y i .rule)
+unfolding rule10Course
+course-10 isFull isNeeded j y i = judged-by 10 y i j (verdict10 isFull isNeeded (courseAt y i) j)
+
+by-10 : (y : Year) (j : ℕ) → By 10 (rule10 y j .rule)
+unfolding rule10
+by-10 y j =
+    choose-by 10 (ltb (highCount y j) (fixedCount y j) || ltb (fixedCount y j + openCount y j) (lowCount y j)) (dead 10 y) _ (inr refl)
+    (over-by 10 (rule10Course (full y j) (needed y j) j) (course-10 (full y j) (needed y j) j) y (y .courses))
+
+by-11 : (y : Year) → By 11 (rule11 y .rule)
+unfolding rule11
+by-11 y =
+    choose-by 11 (any (y .terms) (burst y)) (dead 11 y) _ (inr refl)
+    (choose-by 11 (eqb (room y) 0) (live y) _ (inl refl)
+    (choose-by 11 (any (room y / 2 + 1) (bursts y (room y))) (dead 11 y) (live y) (inr refl) (inl refl)))
+
+-- the pass at place k of the list, the first of which is at r, names rule k
+abbrev pub Numbered : ℕ → List (Step → Step) → Type 0
+Numbered r [] = Unit {0}
+Numbered r (p ∷ ps) = Names r p × Numbered (suc r) ps
+
+over-terms : (r : ℕ) (f : Year → ℕ → Step) → ((y : Year) (k : ℕ) → By r (f y k .rule)) → Names r (λ s. overTo f s (s .year .terms))
+over-terms r f h y = over-by r f h y (y .terms)
+
+pub numbered : Numbered 1 passes
+numbered =
+    over-terms 1 (bounded rule1) by-1
+    also over-terms 2 (bounded rule2) by-2
+    also over-terms 3 rule3 by-3
+    also over-terms 4 (bounded rule4) by-4
+    also over-terms 5 (bounded rule5) by-5
+    also over-terms 6 (bounded rule6) by-6
+    also over-terms 7 (bounded rule7) by-7
+    also over-terms 8 (bounded rule8) by-8
+    also over-terms 9 (bounded rule9) by-9
+    also over-terms 10 rule10 by-10
+    also by-11
+    also tt
+
+-- ---- a round
+
+by-most : (r n named : ℕ) → r ≤ n → By r named → named ≤ n
+by-most r n named h (inl e) = omega arith
+by-most r n named h (inr e) = omega arith
+
+pass-most : (p : Step → Step) → Pass p → (r n : ℕ) → Names r p → r ≤ n → (s : Step) → s .rule ≤ n → p s .rule ≤ n
+pass-most p law r n h k s a =
+    subst (λ (t : Step). t .rule ≤ n) (sym (law .steps s))
+    (choose-case (λ (t : Step). t .rule ≤ n) (eqb (s .rule) 0) (joined s (p (live (s .year)))) s
+    (λ e. by-most r n (p (live (s .year)) .rule) k (h (s .year))) (λ e. a))
+
+row-most : (n r : ℕ) (ps : List (Step → Step)) → Each Pass ps → Numbered r ps → r + length ps ≤ suc n → (s : Step) → s .rule ≤ n → inRow ps s .rule ≤ n
+row-most n r [] laws h k s a = a
+row-most n r (p ∷ ps) laws h k s a =
+    row-most n (suc r) ps (laws .1) (h .1) (omega arith) (p s) (pass-most p (laws .0) r n (h .0) (omega arith) s a)
+
+pub round-named : (y : Year) → round y .rule ≤ 11
+unfolding round
+round-named y = row-most 11 1 passes lawful numbered (omega arith) (live y) (omega arith)
