@@ -3,9 +3,7 @@ use Rattle.promises.specs.Promises.{Promises}
 use Rattle.promises.proofs.Rounds.{filtering-narrows}
 use Rattle.promises.proofs.Narrowings.{each-narrowing}
 use Rattle.promises.proofs.SettledPlan.{one-placing}
-use Rattle.promises.proofs.ImbalancePlan.{imbalance-given}
 use Rattle.promises.proofs.SpareRoom.{spare-room}
-use Rattle.promises.proofs.Boundary.{buffer-left}
 use Rattle.promises.proofs.Table.{table-holds}
 use Rattle.promises.proofs.Unique.{one-result}
 use Rattle.promises.proofs.Demands.{demand-1, demand-2, demand-3}
@@ -20,7 +18,5 @@ promises = record {
   each-narrowing = each-narrowing;
   filtering-narrows = filtering-narrows;
   one-placing = one-placing;
-  imbalance-given = imbalance-given;
   spare-room = spare-room;
-  buffer-left = buffer-left;
 }

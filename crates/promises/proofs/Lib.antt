@@ -5,6 +5,8 @@ pub mod Narrowings
 pub mod OnePlacing
 pub mod SettledPlan
 pub mod ImbalancePlan
+pub mod Answers
+pub mod Codes
 pub mod RoundTrip
 pub mod Sequence
 pub mod SpareRoom

@@ -1,13 +1,13 @@
 -- The three demands that stand over everything, each as one statement.
 use Prim.Native.Nat.{ℕ, _+_, _*_, _≤_, _<_}
-use mathlib.Core.Bool.{true, false}
+use mathlib.Core.Bool.{true}
 use mathlib.Core.List.{List}
 use mathlib.Core.Logic.{_↔_}
 use mathlib.Core.Path.{_≡_}
 use lib.ListN.{length, take, drop}
 use Rattle.year.specs.Year.{emptyYear}
 use Rattle.year.specs.Plans.{Placing, Plan}
-use Rattle.year.specs.Sound.{Sound, isSound}
+use Rattle.year.specs.Sound.{Sound}
 use Rattle.year.specs.Sums.{allPlaced}
 use Rattle.year.specs.Numbers.{narrowingNumber}
 use Rattle.year.specs.declared.Year.{Year}
@@ -23,21 +23,31 @@ use Rattle.promises.specs.Narrowings.{Narrow, narrow, numberDue}
 use Rattle.promises.specs.Rounds.{Filtering, Rested}
 use Rattle.promises.specs.Sequence.{Call, filter, result, after, PlanThatMeets}
 use Rattle.promises.specs.OnePlacing.{thePlacing}
+use Rattle.promises.specs.Answers.{SoundTold, WritingDue, FilteringDue}
+use Rattle.promises.specs.ImbalancePlan.{ImbalanceDue}
+use Rattle.promises.specs.Codes.{CodesDue}
+use Rattle.promises.specs.Boundary.{BufferLeft}
 
 -- ---- 1
 
 -- Every byte string and every year value gets an answer in a bounded number of rounds. Bad ones are refused by the paper's numbers
 -- under exactly its conditions; a refused call, or one answered "no plan", hands the year back unaltered and writes nothing to a lent
--- buffer. (That each call answers, without trapping or hanging, is what the proofs of the functions say; which number a list or a
--- narrowing is due is the definitions readList and numberDue.)
+-- buffer. (That each call answers, without trapping or hanging, is what the proofs of the functions say.)
 pub record Demand1 : Type 0 where
   pub bounded-rounds : (y : Year) → filterRounds (filterOf y .answer) ≤ 1025985
-  pub unsound-filtered : (y : Year) → (filterNumber (filterOf y .answer) ≡ 8) ↔ (isSound y ≡ false)
+  -- refused by the paper's numbers under exactly its conditions
+  pub sound-told : SoundTold
+  pub writing-due : WritingDue
   pub narrowing-due : (n : Narrow) (y : Year) → narrowingNumber (narrow n y .answer) ≡ numberDue y n
+  pub filtering-due : FilteringDue
+  pub imbalance-due : ImbalanceDue
+  pub codes-due : CodesDue
+  -- handed back unaltered, and nothing written
   pub refused-reading : (bytes : List ℕ) → (readingNumber (readList bytes .answer) ≡ 0 → ⊥) → readList bytes .year ≡ emptyYear
   pub refused-narrowing : (n : Narrow) (y : Year) → (narrowingNumber (narrow n y .answer) ≡ 0 → ⊥) → narrow n y .year ≡ y
   pub refused-filtering : (y : Year) → (filterNumber (filterOf y .answer) ≡ 0 → ⊥) → filterOf y .year ≡ y
   pub refused-writing : (y : Year) (buffer : List ℕ) → (writingNumber (writeAnswer y (length buffer)) ≡ 0 → ⊥) → written y buffer ≡ buffer
+  pub buffer-left : BufferLeft
 
 -- ---- 2
 

@@ -11,4 +11,6 @@ pub mod ImbalancePlan
 pub mod SpareRoom
 pub mod Boundary
 pub mod Refusals
+pub mod Answers
+pub mod Codes
 pub mod Promises

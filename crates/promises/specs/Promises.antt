@@ -5,9 +5,7 @@ use Rattle.promises.specs.Unique.{OneResult}
 use Rattle.promises.specs.Narrowings.{EachNarrowing}
 use Rattle.promises.specs.Rounds.{FilteringNarrows}
 use Rattle.promises.specs.OnePlacing.{OnePlacing}
-use Rattle.promises.specs.ImbalancePlan.{ImbalanceGiven}
 use Rattle.promises.specs.SpareRoom.{SpareRoom}
-use Rattle.promises.specs.Boundary.{BufferLeft}
 
 pub record Promises : Type 0 where
   pub demand-1 : Demand1
@@ -18,6 +16,4 @@ pub record Promises : Type 0 where
   pub each-narrowing : EachNarrowing
   pub filtering-narrows : FilteringNarrows
   pub one-placing : OnePlacing
-  pub imbalance-given : ImbalanceGiven
   pub spare-room : SpareRoom
-  pub buffer-left : BufferLeft
