@@ -24,7 +24,7 @@ use Rattle.filter.specs.declared.Answer.the-variants.{Settled, Open}
 use Rattle.filter.specs.declared.Filtered.{Filtered}
 use Rattle.promises.specs.Rounds.{Ends, finds-no-plan, comes-to-rest}
 use Rattle.promises.specs.Answers.{SoundTold, WritingDue, FilteringDue}
-use Rattle.promises.proofs.Rounds.{filter-runs, few-rounds}
+use Rattle.promises.proofs.Rounds.{filter-runs, few-rounds, rest-rounds}
 use Rattle.promises.proofs.RoundsKept.{filter-unsound}
 
 pub sound-told : SoundTold
@@ -89,13 +89,9 @@ end-said : (y z : Year) (n : ℕ) (r : Filtered) → Ends y n z r → Said (r .a
 end-said y z n r (finds-no-plan e) = record { some-round = omega arith; few-rules = round-named z; named = λ q. omega (arith, e); not-unsound = λ q. omega arith }
 end-said y z n r (comes-to-rest e g) = rest-said (allPlaced z) n
 
-rest-rounds : (b : Bool) (n : ℕ) → filterRounds (choose b (Settled n) (Open n)) ≡ n
-rest-rounds true n = refl
-rest-rounds false n = refl
-
 end-rounds : (y z : Year) (n : ℕ) (r : Filtered) → Ends y n z r → filterRounds (r .answer) ≡ suc n
 end-rounds y z n r (finds-no-plan e) = refl
-end-rounds y z n r (comes-to-rest e g) = rest-rounds (allPlaced z) (suc n)
+end-rounds y z n r (comes-to-rest e g) = rest-rounds z (suc n)
 
 sound-said : (y : Year) → Sound y → Said (filterOf y .answer) × (filterRounds (filterOf y .answer) ≤ 1025985)
 sound-said y s =

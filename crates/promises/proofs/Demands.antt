@@ -7,7 +7,7 @@ use Rattle.records.proofs.ReadWrite.{read-write}
 use Rattle.records.proofs.WriteRead.{write-read}
 use Rattle.promises.specs.Rounds.{Filtering}
 use Rattle.promises.specs.Demands.{Demand1, Demand2, Demand3}
-use Rattle.promises.proofs.Rounds.{filter-runs, no-other, filter-rested}
+use Rattle.promises.proofs.Rounds.{filter-runs, no-other, marks-tell, filter-rested}
 use Rattle.promises.proofs.RoundsKept.{filter-kept}
 use Rattle.promises.proofs.Narrowings.{each-narrowing}
 use Rattle.promises.proofs.SettledPlan.{settled-plan}
@@ -41,6 +41,7 @@ demand-1 = record {
 pub demand-2 : Demand2
 demand-2 = record {
   rounds-in-order = λ y r s. (no-other s r, λ e. subst (Filtering y) (sym e) (filter-runs y s));
+  marks-tell = marks-tell;
   filters-to-itself = filter-rested;
   write-then-read = λ y b s e. ap readList (wrote y b .front e) ∙ write-read y s;
   records-in-front = λ y b. wrote y b .front;

@@ -1,18 +1,22 @@
 -- Filtering is a chain of rounds, each but the last leaving another year, at most 1,025,985 of them; and no other answer has such a chain.
 use Prim.Native.Nat.{ℕ, zero, suc, _+_, _-_, _≤_}
-use mathlib.Core.Bool.{Bool, true, false, true≢false}
+use mathlib.Core.Bool.{Bool, true, false, _||_, true≢false}
+use mathlib.Core.List.{List, [], _∷_}
+use mathlib.Core.Logic.{_↔_}
 use mathlib.Core.Path.{_≡_, refl, sym, ap, _∙_}
 use native.Mathlib.Omega.{arith}
 use lib.Dec.{eqb}
+use lib.ListN.{length, drop, length-take}
 use borrow.Author.Tests.{eqb-true, eqb-false, eq-eqb, ne-eqb}
 use Rattle.year.specs.Sound.{Sound}
 use Rattle.year.specs.declared.Year.{Year}
 use Rattle.year.proofs.SoundLaws.{sound-to}
-use Rattle.rules.specs.Round.{round}
+use Rattle.rules.specs.Step.{Step}
+use Rattle.rules.specs.Round.{passes, inRow, passesOf, round}
 use Rattle.rules.proofs.Leeway.{leeway, leeway-most}
 use Rattle.rules.specs.Narrower.{Narrower}
 use Rattle.rules.proofs.Narrows.{narrower-self, narrower-then}
-use Rattle.rules.proofs.Passes.{narrows-round, round-quiet}
+use Rattle.rules.proofs.Passes.{Pass, Each, or-none, lawful-part, narrows-round, round-quiet, pass-quiet}
 use Rattle.filter.specs.Filter.{filtered, atRest, roundsFrom, filterOf}
 use Rattle.filter.specs.Numbers.{filterNumber, filterRounds}
 use Rattle.filter.specs.declared.Answer.the-variants.{NoPlan, Settled, Open}
@@ -20,7 +24,7 @@ use Rattle.filter.specs.declared.Filtered.{Filtered}
 use Rattle.filter.proofs.RoundLaws.{roundsLeft, round-no-plan, round-at-rest, round-alters, round-falls, filter-narrower}
 use Rattle.theory.proofs.ChoiceLaws.{choose-case}
 use Rattle.year.specs.Sums.{allPlaced}
-use Rattle.promises.specs.Rounds.{Altering, none, one-more, Ends, finds-no-plan, comes-to-rest, Filtering, Rested, FilteringNarrows}
+use Rattle.promises.specs.Rounds.{Altering, none, one-more, Ends, finds-no-plan, comes-to-rest, Filtering, MarksTell, Rested, FilteringNarrows}
 
 -- ---- marks and years
 
@@ -33,6 +37,19 @@ altered-where-another z s d = go (round z .altered) refl
 
 another-where-altered : (z : Year) → Sound z → round z .altered ≡ true → round z .year ≡ z → ⊥
 another-where-altered z s e q = true≢false (sym e ∙ round-quiet z s .1 q)
+
+-- the pass at place k of the round, by itself
+pass-marks : (ps : List (Step → Step)) → Each Pass ps → length ps ≤ 1 → (s : Step) → Sound (s .year)
+    → (m : Bool) × (inRow ps s .altered ≡ s .altered || m) × ((m ≡ false) ↔ (inRow ps s .year ≡ s .year))
+pass-marks [] laws one s a = (false, sym (or-none (s .altered)), (λ z. refl, λ z. refl))
+pass-marks (p ∷ []) laws one s a = pass-quiet p (laws .0) s a
+pass-marks (p ∷ (q ∷ ps)) laws one s a = absurd (omega arith)
+
+one-pass : (k : ℕ) → length (passesOf k k) ≤ 1
+one-pass k = omega (arith, length-take (k + 1 - k) (drop (k - 1) passes))
+
+pub marks-tell : MarksTell
+marks-tell = record { of-a-round = round-quiet; of-a-pass = λ k s a. pass-marks (passesOf k k) (lawful-part k k) (one-pass k) s a }
 
 -- ---- the chain
 
@@ -116,7 +133,7 @@ module _ {y : Year} (s : Sound y) where
 pub filtering-narrows : FilteringNarrows
 filtering-narrows y s = filter-narrower y s
 
-rest-rounds : (z : Year) (n : ℕ) → filterRounds (atRest z n) ≡ n
+pub rest-rounds : (z : Year) (n : ℕ) → filterRounds (atRest z n) ≡ n
 rest-rounds z n = choose-case (λ a. filterRounds a ≡ n) (allPlaced z) (Settled n) (Open n) (λ e. refl) (λ e. refl)
 
 ends-rested : {y z : Year} {n : ℕ} {r : Filtered} → Sound z → Ends y n z r → filterNumber (r .answer) ≡ 0 → Rested r

@@ -20,7 +20,7 @@ use Rattle.filter.specs.Filter.{filterOf}
 use Rattle.filter.specs.Numbers.{filterNumber, filterRounds, isSettled}
 use Rattle.filter.specs.declared.Filtered.{Filtered}
 use Rattle.promises.specs.Narrowings.{Narrow, narrow, numberDue}
-use Rattle.promises.specs.Rounds.{Filtering, Rested}
+use Rattle.promises.specs.Rounds.{Filtering, MarksTell, Rested}
 use Rattle.promises.specs.Sequence.{Call, filter, result, after, PlanThatMeets}
 use Rattle.promises.specs.OnePlacing.{thePlacing}
 use Rattle.promises.specs.Answers.{SoundTold, WritingDue, FilteringDue}
@@ -55,6 +55,7 @@ pub record Demand1 : Type 0 where
 -- alters nothing. Write then read gives the year; a list that reads is written back byte for byte.
 pub record Demand2 : Type 0 where
   pub rounds-in-order : (y : Year) (r : Filtered) → Sound y → Filtering y r ↔ (r ≡ filterOf y)
+  pub marks-tell : MarksTell
   pub filters-to-itself : (y : Year) → Sound y → filterNumber (filterOf y .answer) ≡ 0 → Rested (filterOf y)
   pub write-then-read : (y : Year) (buffer : List ℕ) → Sound y → writingNumber (writeAnswer y (length buffer)) ≡ 0
       → readList (take (length (recordsOf y)) (written y buffer)) ≡ done y

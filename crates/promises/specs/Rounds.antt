@@ -1,9 +1,12 @@
 -- What it is to run rounds until one alters nothing, with no limit on their number in the statement; and what filtering hands back.
 use Prim.Native.Nat.{ℕ, suc}
+use mathlib.Core.Bool.{Bool, false, _||_}
+use mathlib.Core.Logic.{_↔_}
 use mathlib.Core.Path.{_≡_}
 use Rattle.year.specs.Sound.{Sound}
 use Rattle.year.specs.declared.Year.{Year}
-use Rattle.rules.specs.Round.{round}
+use Rattle.rules.specs.Step.{Step}
+use Rattle.rules.specs.Round.{inRow, passesOf, round}
 use Rattle.rules.specs.Narrower.{Narrower}
 use Rattle.filter.specs.Filter.{filtered, atRest, filterOf}
 use Rattle.filter.specs.Numbers.{filterRounds}
@@ -29,6 +32,15 @@ pub record Filtering (y : Year) (r : Filtered) : Type 0 where
   pub reached : Year
   pub altering : Altering y rounds-before-last reached
   pub ends : Ends y rounds-before-last reached r
+
+-- ---- marks
+
+-- what the marks of a round mean, for a sound year, also where it ends in a no plan: the round is marked unaltered exactly if it leaves
+-- the year it was given; after a pass the mark is the one it got or m, and m is false exactly if it leaves the year it got
+pub record MarksTell : Type 0 where
+  pub of-a-round : (y : Year) → Sound y → (round y .altered ≡ false) ↔ (round y .year ≡ y)
+  pub of-a-pass : (k : ℕ) (s : Step) → Sound (s .year)
+      → let t = inRow (passesOf k k) s in (m : Bool) × (t .altered ≡ s .altered || m) × ((m ≡ false) ↔ (t .year ≡ s .year))
 
 -- ---- what is handed back
 

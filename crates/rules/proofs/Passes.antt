@@ -40,7 +40,7 @@ pub record Pass (p : Step → Step) : Type 0 where
 
 -- ---- a rule over the terms is a pass if it is lawful at each term
 
-or-none : (a : Bool) → a || false ≡ a
+pub or-none : (a : Bool) → a || false ≡ a
 or-none true = refl
 or-none false = refl
 
