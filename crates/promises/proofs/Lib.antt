@@ -6,6 +6,8 @@ pub mod OnePlacing
 pub mod SettledPlan
 pub mod ImbalancePlan
 pub mod RoundTrip
+pub mod RefusalRows
+pub mod Refusals
 pub mod Sequence
 pub mod SpareRoom
 pub mod Boundary
