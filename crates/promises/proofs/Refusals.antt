@@ -10,6 +10,7 @@ use lib.Dec.{eqb, leb}
 use lib.ListN.{length, getD}
 use Rattle.theory.specs.Choice.{choose}
 use Rattle.theory.specs.Sum.{sum}
+use Rattle.theory.proofs.ChoiceLaws.{choose-case}
 use Rattle.theory.proofs.SumLaws.{pick-eq, pick-ne}
 use Rattle.year.specs.declared.Term.{Term}
 use Rattle.year.specs.declared.Course.{Course}
@@ -82,31 +83,40 @@ module _ (s : List ℕ) (k : ℕ) where
       row fault.List (badList s (k * 16) (before s T k)) _ (course-list s k is) (one-more 5 n4 (course-order s k is)) λ n6.
       last-row (blankFrom s (k * 16) 6) (OfCourse (courseIn s (k * 16))) (λ r. r) (course-padding s k is) n6
 
-  -- a course before any term is the first record
+  -- the letter and what stands before it: a term, a course
+  abbrev termHere : Bool
+  termHere = eqb (letterAt s (k * 16)) T && eqb (before s C k) 0
+
+  abbrev courseHere : Bool
+  courseHere = eqb (letterAt s (k * 16)) C && leb 1 (before s T k)
+
+  term-here : Tells termHere ((letterAt s (k * 16) ≡ T) × (before s C k ≡ 0))
+  term-here = tells-and _ _ (tells-eq (letterAt s (k * 16)) T) (tells-eq (before s C k) 0)
+
+  course-here : Tells courseHere ((letterAt s (k * 16) ≡ C) × (1 ≤ before s T k))
+  course-here = tells-and _ _ (tells-eq (letterAt s (k * 16)) C) (tells-le 1 (before s T k))
+
+  -- neither; a course that no term stands before is the first record
+  wrong-letter : termHere ≡ false → courseHere ≡ false → (1 ≤ k → 1 ≤ before s T k) → Wrong s k 2
+  wrong-letter p q some = go (ℕ-discrete (byteOf s k 0) T) (ℕ-discrete (byteOf s k 0) C)
+    where
+      go : Dec (byteOf s k 0 ≡ T) → Dec (byteOf s k 0 ≡ C) → Wrong s k 2
+      go (yes t) c =
+          let behind : before s C k ≡ 0 → ⊥ = λ z. term-here .1 p (sym (letter-of s k) ∙ t, z) in
+          term-behind-course t (omega (arith, behind))
+      go (no t) (yes c) =
+          let later : 1 ≤ k → ⊥ = λ h. course-here .1 q (sym (letter-of s k) ∙ c, some h) in
+          course-first (omega (arith, later)) c
+      go (no t) (no c) = neither-letter t c
+
   judged-record : before s T k + before s C k ≡ k → (1 ≤ k → 1 ≤ before s T k) → Judged s k (recordAt s (k * 16) (before s T k) (before s C k))
   unfolding recordAt
-  judged-record count some = go (eqb (letterAt s (k * 16)) T && eqb (before s C k) 0) refl (eqb (letterAt s (k * 16)) C && leb 1 (before s T k)) refl
-    where
-      is-term : Tells (eqb (letterAt s (k * 16)) T && eqb (before s C k) 0) ((letterAt s (k * 16) ≡ T) × (before s C k ≡ 0))
-      is-term = tells-and _ _ (tells-eq (letterAt s (k * 16)) T) (tells-eq (before s C k) 0)
-
-      is-course : Tells (eqb (letterAt s (k * 16)) C && leb 1 (before s T k)) ((letterAt s (k * 16) ≡ C) × (1 ≤ before s T k))
-      is-course = tells-and _ _ (tells-eq (letterAt s (k * 16)) C) (tells-le 1 (before s T k))
-
-      -- neither kind
-      wrong : ((letterAt s (k * 16) ≡ T) × (before s C k ≡ 0) → ⊥) → ((letterAt s (k * 16) ≡ C) × (1 ≤ before s T k) → ⊥) → Dec (byteOf s k 0 ≡ T) → Dec (byteOf s k 0 ≡ C) → Wrong s k 2
-      wrong a b (yes t) c =
-          let some-course : before s C k ≡ 0 → ⊥ = λ z. a (sym (letter-of s k) ∙ t, z) in
-          term-behind-course t (omega (arith, some-course))
-      wrong a b (no t) (yes c) =
-          let none-before : 1 ≤ k → ⊥ = λ h. b (sym (letter-of s k) ∙ c, some h) in
-          course-first (omega (arith, none-before)) c
-      wrong a b (no t) (no c) = neither-letter t c
-
-      go : (a : Bool) → (eqb (letterAt s (k * 16)) T && eqb (before s C k) 0) ≡ a → (b : Bool) → (eqb (letterAt s (k * 16)) C && leb 1 (before s T k)) ≡ b → Judged s k (choose a (termRecord s (k * 16) (before s T k)) (choose b (courseRecord s (k * 16) (before s C k) (before s T k)) (Faulty fault.Letter)))
-      go true p b q = let r = is-term .0 p in judged-term (letter-of s k ∙ r .0) (r .1)
-      go false p true q = let r = is-course .0 q in judged-course (letter-of s k ∙ r .0) (omega (arith, r .1))
-      go false p false q = (wrong (is-term .1 p) (is-course .1 q) (ℕ-discrete (byteOf s k 0) T) (ℕ-discrete (byteOf s k 0) C), none-start)
+  judged-record count some =
+      choose-case (Judged s k) termHere _ _
+      (λ p. let r = term-here .0 p in judged-term (letter-of s k ∙ r .0) (r .1))
+      λ p. choose-case (Judged s k) courseHere _ _
+      (λ q. let r = course-here .0 q in judged-course (letter-of s k ∙ r .0) (omega (arith, r .1)))
+      λ q. (wrong-letter p q some, none-start)
 
 -- ---- the records before record k
 
@@ -169,23 +179,26 @@ data Found (s : List ℕ) : ℕ → ℕ → Type 0 where
   first-wrong : {n k : ℕ} → FirstWrong s n k → Found s n k
   all-right : (BadLength (length s) → ⊥) → ((k : ℕ) → k < length s / 16 → Right s k) → Found s 0 0
 
-found : (s : List ℕ) → Found s (number s) (place s)
-unfolding readList
-found s = go (badLength (length s)) refl
-  where
-    records : (BadLength (length s) → ⊥) → (a : Reading) → readTo s (length s / 16) .answer ≡ a → Found s (readingNumber a) (readingPlace a)
-    records good reading.Done e =
-        let y = readTo s (length s / 16) .year in
-        all-right good (behind s (length s / 16) y (λ i. record { answer = e i; year = y }) .right)
-    records good (reading.Refused f k) e =
-        let r = first-fault s (length s / 16) f k e in
-        let p = behind s k (r .1 .so-far) (r .1 .read-before) in
-        let j : Judged s k (Faulty f) = subst (Judged s k) (r .1 .fault-here) (judged s k (r .1 .so-far) p) in
-        first-wrong (record { good-length = good; in-list = r .0; before-right = p .right; is-wrong = j .0; none-lower = j .1 })
+abbrev FoundBy : List ℕ → Reading → Type 0
+FoundBy s a = Found s (readingNumber a) (readingPlace a)
 
-    go : (b : Bool) → badLength (length s) ≡ b → Found s (readingNumber (choose b (refused fault.Length 0) (readTo s (length s / 16)) .answer)) (readingPlace (choose b (refused fault.Length 0) (readTo s (length s / 16)) .answer))
-    go true e = bad-length (tells-length (length s) .0 e)
-    go false e = records (tells-length (length s) .1 e) (readTo s (length s / 16) .answer) refl
+found-records : (s : List ℕ) → (BadLength (length s) → ⊥) → (a : Reading) → readTo s (length s / 16) .answer ≡ a → FoundBy s a
+found-records s good reading.Done e =
+    let y = readTo s (length s / 16) .year in
+    all-right good (behind s (length s / 16) y (λ i. record { answer = e i; year = y }) .right)
+found-records s good (reading.Refused f k) e =
+    let r = first-fault s (length s / 16) f k e in
+    let p = behind s k (r .1 .so-far) (r .1 .read-before) in
+    let j : Judged s k (Faulty f) = subst (Judged s k) (r .1 .fault-here) (judged s k (r .1 .so-far) p) in
+    first-wrong (record { good-length = good; in-list = r .0; before-right = p .right; is-wrong = j .0; none-lower = j .1 })
+
+-- what reading answers is what the rows say
+found : (s : List ℕ) → FoundBy s (readList s .answer)
+unfolding readList
+found s =
+    choose-case (λ r. FoundBy s (r .answer)) (badLength (length s)) (refused fault.Length 0) (readTo s (length s / 16))
+    (λ e. bad-length (tells-length (length s) .0 e))
+    (λ e. found-records s (tells-length (length s) .1 e) (readTo s (length s / 16) .answer) refl)
 
 -- they say it once
 same-place : (s : List ℕ) (n k m j : ℕ) → FirstWrong s n k → FirstWrong s m j → j ≤ k
@@ -221,39 +234,40 @@ found-once s n k m j (all-right good a) (all-right well b) = (refl, refl)
 
 -- ---- the statement
 
-found-length : (s : List ℕ) (n k : ℕ) → n ≡ 1 → Found s n k → BadLength (length s)
-found-length s n k e (bad-length b) = b
-found-length s n k e (first-wrong w) = absurd (omega (arith, wrong-number s k n (w .is-wrong) .0))
-found-length s n k e (all-right good r) = absurd (omega arith)
+-- and the other way round
+answered : (s : List ℕ) (n k : ℕ) → Found s n k → (number s ≡ n) × (place s ≡ k)
+answered s n k = found-once s (number s) (place s) n k (found s)
+
+found-at : (s : List ℕ) (n k : ℕ) → number s ≡ n → place s ≡ k → Found s n k
+found-at s n k e f = subst (Found s n) f (subst (λ (m : ℕ). Found s m (place s)) e (found s))
+
+found-length : (s : List ℕ) (k : ℕ) → Found s 1 k → BadLength (length s)
+found-length s k (bad-length b) = b
+found-length s k (first-wrong w) = absurd (omega (arith, wrong-number s k 1 (w .is-wrong) .0))
 
 found-wrong : (s : List ℕ) (n k : ℕ) → 2 ≤ n → Found s n k → FirstWrong s n k
 found-wrong s n k h (bad-length b) = absurd (omega arith)
 found-wrong s n k h (first-wrong w) = w
 found-wrong s n k h (all-right good r) = absurd (omega arith)
 
-found-right : (s : List ℕ) (n k : ℕ) → n ≡ 0 → Found s n k → (BadLength (length s) → ⊥) × ((i : ℕ) → i < length s / 16 → Right s i)
-found-right s n k e (bad-length b) = absurd (omega arith)
-found-right s n k e (first-wrong w) = absurd (omega (arith, wrong-number s k n (w .is-wrong) .0))
-found-right s n k e (all-right good r) = (good, r)
+found-right : (s : List ℕ) (k : ℕ) → Found s 0 k → (BadLength (length s) → ⊥) × ((i : ℕ) → i < length s / 16 → Right s i)
+found-right s k (first-wrong w) = absurd (omega (arith, wrong-number s k 0 (w .is-wrong) .0))
+found-right s k (all-right good r) = (good, r)
 
 found-most : (s : List ℕ) (n k : ℕ) → Found s n k → n ≤ 7
 found-most s n k (bad-length b) = omega arith
 found-most s n k (first-wrong w) = wrong-number s k n (w .is-wrong) .1
 found-most s n k (all-right good r) = omega arith
 
--- what the rows say is what reading answers
-answered : (s : List ℕ) (n k : ℕ) → Found s n k → (number s ≡ n) × (place s ≡ k)
-answered s n k = found-once s (number s) (place s) n k (found s)
-
-found-at : (s : List ℕ) (n k : ℕ) → (number s ≡ n) × (place s ≡ k) → Found s n k
-found-at s n k e = subst (Found s n) (e .1) (subst (λ (m : ℕ). Found s m (place s)) (e .0) (found s))
+bad-if-1 : (s : List ℕ) → number s ≡ 1 → BadLength (length s)
+bad-if-1 s e = found-length s (place s) (found-at s 1 (place s) e refl)
 
 pub reading-due : ReadingDue
 reading-due = record {
-  by-length = λ s. (λ e. found-length s (number s) (place s) e (found s), λ b. answered s 1 0 (bad-length b) .0);
-  by-length-at-0 = λ s e. answered s 1 0 (bad-length (found-length s (number s) (place s) e (found s))) .1;
-  by-record = λ s n k h. (λ e. found-wrong s n k h (found-at s n k e), λ w. answered s n k (first-wrong w));
-  read = λ s. (λ e. found-right s (number s) (place s) e (found s), λ r. answered s 0 0 (all-right (r .0) (r .1)) .0);
+  by-length = λ s. (bad-if-1 s, λ b. answered s 1 0 (bad-length b) .0);
+  by-length-at-0 = λ s e. answered s 1 0 (bad-length (bad-if-1 s e)) .1;
+  by-record = λ s n k h. (λ e. found-wrong s n k h (found-at s n k (e .0) (e .1)), λ w. answered s n k (first-wrong w));
+  read = λ s. (λ e. found-right s (place s) (found-at s 0 (place s) e refl), λ r. answered s 0 0 (all-right (r .0) (r .1)) .0);
   reads-records = λ s bytes. (
     λ e. (readList s .year, read-sound s (readList s .year) (read-done s e), read-write s bytes (readList s .year) (read-done s e)),
     λ (y, sound, is). ap number (sym is) ∙ ap (λ r. readingNumber (r .answer)) (write-read y sound),
