@@ -6,6 +6,7 @@ use Rattle.promises.proofs.SettledPlan.{one-placing}
 use Rattle.promises.proofs.ImbalancePlan.{imbalance-given}
 use Rattle.promises.proofs.SpareRoom.{spare-room}
 use Rattle.promises.proofs.Boundary.{buffer-left}
+use Rattle.promises.proofs.Refusals.{reading-due}
 use Rattle.promises.proofs.Table.{table-holds}
 use Rattle.promises.proofs.Unique.{one-result}
 use Rattle.promises.proofs.Demands.{demand-1, demand-2, demand-3}
@@ -23,4 +24,5 @@ promises = record {
   imbalance-given = imbalance-given;
   spare-room = spare-room;
   buffer-left = buffer-left;
+  reading-due = reading-due;
 }

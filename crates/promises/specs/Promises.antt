@@ -8,6 +8,7 @@ use Rattle.promises.specs.OnePlacing.{OnePlacing}
 use Rattle.promises.specs.ImbalancePlan.{ImbalanceGiven}
 use Rattle.promises.specs.SpareRoom.{SpareRoom}
 use Rattle.promises.specs.Boundary.{BufferLeft}
+use Rattle.promises.specs.Refusals.{ReadingDue}
 
 pub record Promises : Type 0 where
   pub demand-1 : Demand1
@@ -21,3 +22,4 @@ pub record Promises : Type 0 where
   pub imbalance-given : ImbalanceGiven
   pub spare-room : SpareRoom
   pub buffer-left : BufferLeft
+  pub reading-due : ReadingDue
