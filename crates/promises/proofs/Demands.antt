@@ -12,6 +12,7 @@ use Rattle.promises.proofs.RoundsKept.{filter-kept}
 use Rattle.promises.proofs.Narrowings.{each-narrowing}
 use Rattle.promises.proofs.SettledPlan.{settled-plan}
 use Rattle.promises.proofs.ImbalancePlan.{imbalance-due}
+use Rattle.promises.proofs.Refusals.{reading-due}
 use Rattle.promises.proofs.Answers.{sound-told, writing-due, rounds-bounded, filtering-due}
 use Rattle.promises.proofs.Codes.{codes-due}
 use Rattle.promises.proofs.Boundary.{buffer-left}
@@ -24,6 +25,7 @@ pub demand-1 : Demand1
 demand-1 = record {
   bounded-rounds = rounds-bounded;
   sound-told = sound-told;
+  reading-due = reading-due;
   writing-due = writing-due;
   narrowing-due = λ n y. each-narrowing n y .number;
   filtering-due = filtering-due;

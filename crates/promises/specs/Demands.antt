@@ -23,6 +23,7 @@ use Rattle.promises.specs.Narrowings.{Narrow, narrow, numberDue}
 use Rattle.promises.specs.Rounds.{Filtering, MarksTell, Rested}
 use Rattle.promises.specs.Sequence.{Call, filter, result, after, PlanThatMeets}
 use Rattle.promises.specs.OnePlacing.{thePlacing}
+use Rattle.promises.specs.Refusals.{ReadingDue}
 use Rattle.promises.specs.Answers.{SoundTold, WritingDue, FilteringDue}
 use Rattle.promises.specs.ImbalancePlan.{ImbalanceDue}
 use Rattle.promises.specs.Codes.{CodesDue}
@@ -37,6 +38,7 @@ pub record Demand1 : Type 0 where
   pub bounded-rounds : (y : Year) → filterRounds (filterOf y .answer) ≤ 1025985
   -- refused by the paper's numbers under exactly its conditions
   pub sound-told : SoundTold
+  pub reading-due : ReadingDue
   pub writing-due : WritingDue
   pub narrowing-due : (n : Narrow) (y : Year) → narrowingNumber (narrow n y .answer) ≡ numberDue y n
   pub filtering-due : FilteringDue

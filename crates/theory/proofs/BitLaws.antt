@@ -75,6 +75,15 @@ bit-some (suc m) l a h = go (eqb (l % 2) 1) refl (λ q. bit-some m (l / 2) q (om
     go true e ih = (0, omega arith, e)
     go false e ih = let r = ih (omega (arith, eqb-false (l % 2) 1 e)) in (suc (r .0), omega (arith, r .1), r .2)
 
+below-power : (n : ℕ) → n < 2 ^ n
+below-power zero = omega arith
+below-power (suc n) = omega (arith, below-power n)
+
+bit-above : (m l : ℕ) → 2 ^ m ≤ l → (k : ℕ) × (m ≤ k) × (bit l k ≡ true)
+unfolding bit
+bit-above zero l h = let r = bit-some l l (omega arith) (below-power l) in (r .0, omega arith, r .2)
+bit-above (suc m) l h = let r = bit-above m (l / 2) (omega arith) in (suc (r .0), omega (arith, r .1), r .2)
+
 -- ---- the laws
 
 -- the list of j alone names j and no other
@@ -95,6 +104,10 @@ has-below m l k h e = bit-below m l k h (sym (has-bit l k) ∙ e)
 
 pub has-some : (m l : ℕ) → 1 ≤ l → l < 2 ^ m → (k : ℕ) × (k < m) × (has l k ≡ true)
 has-some m l a h = let r = bit-some m l a h in (r .0, r .1, has-bit l (r .0) ∙ r .2)
+
+-- a list from 2 ^ m on names some term from m on
+pub has-above : (m l : ℕ) → 2 ^ m ≤ l → (k : ℕ) × (m ≤ k) × (has l k ≡ true)
+has-above m l h = let r = bit-above m l h in (r .0, r .1, has-bit l (r .0) ∙ r .2)
 
 pub power-below : (j m : ℕ) → j < m → 2 ^ j < 2 ^ m
 power-below j zero h = absurd (omega arith)

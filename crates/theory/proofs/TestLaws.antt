@@ -40,6 +40,16 @@ unfolding all
 all-of zero f h = refl
 all-of (suc n) f h = and-of (all n f) (f n) (all-of n f (λ i l. h i (omega arith))) (h n (le-refl (suc n)))
 
+-- where not all pass, one fails
+pub all-false : (n : ℕ) (f : ℕ → Bool) → all n f ≡ false → (k : ℕ) × (k < n) × (f k ≡ false)
+unfolding all
+all-false zero f e = absurd (true≢false e)
+all-false (suc n) f e = go (all n f) refl e (λ q. all-false n f q)
+  where
+    go : (b : Bool) → all n f ≡ b → b && f n ≡ false → (all n f ≡ false → (k : ℕ) × (k < n) × (f k ≡ false)) → (k : ℕ) × (k < suc n) × (f k ≡ false)
+    go true a q ih = (n, le-refl (suc n), q)
+    go false a q ih = let r = ih a in (r .0, omega (arith, r .1), r .2)
+
 pub any-more : (n : ℕ) (f : ℕ → Bool) → any (n + 1) f ≡ any n f || f n
 unfolding any
 any-more n f = rw add-one
