@@ -4,7 +4,8 @@
 use Prim.Native.Nat.{ℕ}
 use mathlib.Core.List.{[], _∷_}
 use mathlib.Core.Path.{_≡_, refl}
-use Rattle.year.specs.Year.{termOf, courseOf}
+use Rattle.year.specs.Year.{termOf, courseOf, withTerm}
+use Rattle.year.specs.Examples.{yearE}
 use Rattle.year.specs.declared.Year.{Year}
 use Rattle.rules.specs.Examples.{yearOf}
 use Rattle.filter.specs.Filter.{filtered, filterOf}
@@ -26,9 +27,7 @@ StaysOpen y n z = filterOf y ≡ filtered (Open n) z
 
 -- ---- the paper's table
 
-row-1 :
-    StaysOpen (yearOf (termOf 0 4 0 3 ∷ termOf 0 6 0 3 ∷ []) (courseOf 4 3 ∷ courseOf 3 3 ∷ courseOf 2 3 ∷ [])) 2
-    (yearOf (termOf 3 4 1 1 ∷ termOf 5 6 2 2 ∷ []) (courseOf 4 3 ∷ courseOf 3 3 ∷ courseOf 2 3 ∷ []))
+row-1 : StaysOpen yearE 2 (withTerm (withTerm yearE 0 (termOf 3 4 1 1)) 1 (termOf 5 6 2 2))
 unfolding computing
 row-1 = refl
 
