@@ -124,14 +124,16 @@ narrow-refused : (narrowed 0 3 0 ≡ (10, buffer 81))
 unfolding computing
 narrow-refused = (refl, refl, refl, refl, refl, refl)
 
--- 9, told before 10; a refused list is told before 9
-narrow-short : (narrowCode bytesE 0 0 1 79 ≡ 9)
-    × (narrowOut bytesE 0 0 1 (buffer 79) ≡ buffer 79)
+-- 9, told before 10, but not of a buffer that is just long enough; a refused list is told before 9
+narrow-short : (narrowCode bytesE 3 1 5 79 ≡ 9)
+    × (narrowOut bytesE 3 1 5 (buffer 79) ≡ buffer 79)
+    × (narrowCode bytesE 3 1 5 80 ≡ 0)
+    × (narrowOut bytesE 3 1 5 (buffer 80) ≡ withByte 21 5)
     × (narrowCode bytesE 6 0 0 79 ≡ 9)
     × (narrowCode refusedE 6 0 0 0 ≡ 7 + 4 * 65536)
-    × (narrowOut refusedE 0 0 1 (buffer 81) ≡ buffer 81)
+    × (narrowOut refusedE 3 0 0 (buffer 81) ≡ buffer 81)
 unfolding computing
-narrow-short = (refl, refl, refl, refl, refl)
+narrow-short = (refl, refl, refl, refl, refl, refl, refl)
 
 -- ---- imbalance
 
