@@ -1,9 +1,11 @@
 -- Whole filterings by computation: rows 1 to 5 of the paper's table; small years on which each rule finds no plan or makes the
--- difference; and for each of the paper's traps a year that the trapped version answers otherwise.
+-- difference; for each of the paper's traps a year that the trapped version answers otherwise; and the same for other bends of the
+-- definitions, each with what the bent version would answer: neighbours in the round exchanged, a mark forgotten, spares and ties.
 use Prim.Native.Nat.{ℕ}
 use mathlib.Core.List.{[], _∷_}
 use mathlib.Core.Path.{_≡_, refl}
-use Rattle.year.specs.Year.{termOf, courseOf}
+use Rattle.year.specs.Year.{termOf, courseOf, withTerm}
+use Rattle.year.specs.Examples.{yearE}
 use Rattle.year.specs.declared.Year.{Year}
 use Rattle.rules.specs.Examples.{yearOf}
 use Rattle.filter.specs.Filter.{filtered, filterOf}
@@ -25,9 +27,7 @@ StaysOpen y n z = filterOf y ≡ filtered (Open n) z
 
 -- ---- the paper's table
 
-row-1 :
-    StaysOpen (yearOf (termOf 0 4 0 3 ∷ termOf 0 6 0 3 ∷ []) (courseOf 4 3 ∷ courseOf 3 3 ∷ courseOf 2 3 ∷ [])) 2
-    (yearOf (termOf 3 4 1 1 ∷ termOf 5 6 2 2 ∷ []) (courseOf 4 3 ∷ courseOf 3 3 ∷ courseOf 2 3 ∷ []))
+row-1 : StaysOpen yearE 2 (withTerm (withTerm yearE 0 (termOf 3 4 1 1)) 1 (termOf 5 6 2 2))
 unfolding computing
 row-1 = refl
 
@@ -164,3 +164,130 @@ trap-5 :
     FindsNone (yearOf (termOf 0 5 0 2 ∷ termOf 0 5 0 2 ∷ []) (courseOf 2 3 ∷ courseOf 2 3 ∷ courseOf 2 3 ∷ courseOf 4 3 ∷ [])) 11 1
 unfolding computing
 trap-5 = refl
+
+-- ---- rules exchanged: the neighbours that no year above tells apart
+
+-- rule 3 before rule 4; exchanged, NOPLAN 5 1
+in-order-3-4 : FindsNone (yearOf (termOf 2 9 1 1 ∷ termOf 3 5 1 3 ∷ []) (courseOf 5 3 ∷ [])) 4 1
+unfolding computing
+in-order-3-4 = refl
+
+-- rule 6 before rule 7; exchanged, NOPLAN 7 1
+in-order-6-7 : FindsNone (yearOf (termOf 0 1 0 0 ∷ termOf 0 1 0 2 ∷ []) (courseOf 1 3 ∷ courseOf 1 3 ∷ [])) 6 1
+unfolding computing
+in-order-6-7 = refl
+
+-- rule 9 before rule 10; exchanged, NOPLAN 9 1
+in-order-9-10 : FindsNone (yearOf (termOf 1 2 0 1 ∷ termOf 1 2 0 1 ∷ termOf 0 1 1 1 ∷ []) (courseOf 1 7 ∷ courseOf 2 3 ∷ [])) 2 2
+unfolding computing
+in-order-9-10 = refl
+
+-- rule 10 before rule 11; exchanged, NOPLAN 1 2
+in-order-10-11 :
+    FindsNone (yearOf (termOf 0 2 0 2 ∷ termOf 0 1 0 0 ∷ termOf 0 2 0 2 ∷ []) (courseOf 1 3 ∷ courseOf 1 6 ∷ courseOf 2 5 ∷ [])) 11 1
+unfolding computing
+in-order-10-11 = refl
+
+-- ---- rules that alter the year silently: what a rule altered has to be marked, or the round would be taken for the last.
+-- Rule 10's own mark is never the only one of its round: its courses are struck or fixed by rule 3 unless a bound moved since
+
+-- rule 1 alone alters; silent, SETTLED 1
+marks-1 : Settles (yearOf (termOf 0 8 0 0 ∷ []) []) 2 (yearOf (termOf 0 0 0 0 ∷ []) [])
+unfolding computing
+marks-1 = refl
+
+-- rule 2 alone; silent, OPEN 1
+marks-2 :
+    StaysOpen (yearOf (termOf 0 1 1 1 ∷ termOf 0 1 1 1 ∷ []) (courseOf 1 3 ∷ courseOf 1 3 ∷ [])) 2
+    (yearOf (termOf 1 1 1 1 ∷ termOf 1 1 1 1 ∷ []) (courseOf 1 3 ∷ courseOf 1 3 ∷ []))
+unfolding computing
+marks-2 = refl
+
+-- rule 3 alone; silent, SETTLED 1
+marks-3 :
+    Settles (yearOf (termOf 1 1 1 1 ∷ termOf 0 0 0 0 ∷ []) (courseOf 1 3 ∷ [])) 2
+    (yearOf (termOf 1 1 1 1 ∷ termOf 0 0 0 0 ∷ []) (courseOf 1 1 ∷ []))
+unfolding computing
+marks-3 = refl
+
+-- rule 4 alone; silent, SETTLED 1
+marks-4 : Settles (yearOf (termOf 0 0 0 1 ∷ []) []) 2 (yearOf (termOf 0 0 0 0 ∷ []) [])
+unfolding computing
+marks-4 = refl
+
+-- rule 5 alone; silent, OPEN 1
+marks-5 :
+    StaysOpen (yearOf (termOf 1 1 0 1 ∷ termOf 1 1 0 1 ∷ []) (courseOf 1 3 ∷ courseOf 1 3 ∷ [])) 2
+    (yearOf (termOf 1 1 1 1 ∷ termOf 1 1 1 1 ∷ []) (courseOf 1 3 ∷ courseOf 1 3 ∷ []))
+unfolding computing
+marks-5 = refl
+
+-- rule 6 alone; silent, OPEN 1
+marks-6 :
+    StaysOpen (yearOf (termOf 0 2 0 1 ∷ termOf 1 2 0 1 ∷ termOf 0 1 0 1 ∷ []) (courseOf 2 3 ∷ courseOf 1 6 ∷ [])) 2
+    (yearOf (termOf 0 2 0 1 ∷ termOf 1 2 1 1 ∷ termOf 0 1 0 1 ∷ []) (courseOf 2 3 ∷ courseOf 1 6 ∷ []))
+unfolding computing
+marks-6 = refl
+
+-- rule 7 alone; silent, OPEN 1
+marks-7 :
+    StaysOpen (yearOf (termOf 0 1 0 1 ∷ termOf 0 1 0 1 ∷ termOf 0 1 0 2 ∷ []) (courseOf 1 6 ∷ courseOf 1 5 ∷ [])) 2
+    (yearOf (termOf 0 1 0 1 ∷ termOf 0 1 0 1 ∷ termOf 0 1 0 1 ∷ []) (courseOf 1 6 ∷ courseOf 1 5 ∷ []))
+unfolding computing
+marks-7 = refl
+
+-- rule 8 alone; silent, OPEN 1
+marks-8 :
+    StaysOpen (yearOf (termOf 0 1 0 1 ∷ termOf 0 2 1 2 ∷ termOf 0 1 0 1 ∷ []) (courseOf 1 3 ∷ courseOf 1 6 ∷ [])) 2
+    (yearOf (termOf 0 1 0 1 ∷ termOf 1 2 1 2 ∷ termOf 0 1 0 1 ∷ []) (courseOf 1 3 ∷ courseOf 1 6 ∷ []))
+unfolding computing
+marks-8 = refl
+
+-- rule 9 alone; silent, OPEN 1
+marks-9 :
+    StaysOpen (yearOf (termOf 0 2 0 1 ∷ termOf 0 2 0 2 ∷ termOf 0 2 0 2 ∷ []) (courseOf 1 5 ∷ courseOf 1 3 ∷ courseOf 1 6 ∷ [])) 2
+    (yearOf (termOf 0 1 0 1 ∷ termOf 0 2 0 2 ∷ termOf 0 2 0 2 ∷ []) (courseOf 1 5 ∷ courseOf 1 3 ∷ courseOf 1 6 ∷ []))
+unfolding computing
+marks-9 = refl
+
+-- only rules 6 to 10 alter in round 1, and round 2 finds no plan; all five silent, SETTLED 1
+marks-6-to-10 : FindsNone (yearOf (termOf 3 4 0 1 ∷ termOf 0 4 1 1 ∷ termOf 1 4 0 1 ∷ []) (courseOf 4 7 ∷ courseOf 4 5 ∷ [])) 1 2
+unfolding computing
+marks-6-to-10 = refl
+
+-- ---- walks
+
+-- rule 6 sets up spares anew at each term; with those of the rule's start, NOPLAN 7 1
+fresh-spares :
+    FindsNone
+    (yearOf (termOf 1 4 2 3 ∷ termOf 2 5 2 4 ∷ [])
+    (courseOf 1 2 ∷ courseOf 2 3 ∷ courseOf 2 3 ∷ courseOf 1 1 ∷ courseOf 2 3 ∷ courseOf 1 2 ∷ []))
+    6 1
+unfolding computing
+fresh-spares = refl
+
+-- ties by lower number: with ties by higher number in rule 6, 7, 8 or 9 it is that rule that finds no plan, in round 1
+ties :
+    FindsNone
+    (yearOf (termOf 0 2 1 1 ∷ termOf 2 3 0 2 ∷ termOf 3 4 0 2 ∷ []) (courseOf 2 5 ∷ courseOf 2 6 ∷ courseOf 2 7 ∷ courseOf 1 2 ∷ []))
+    2 2
+unfolding computing
+ties = refl
+
+-- going up, once more, where there are plans: with ties by higher number in rule 7, OPEN 3
+ties-open :
+    StaysOpen
+    (yearOf (termOf 0 5 1 3 ∷ termOf 1 4 0 2 ∷ termOf 0 4 2 3 ∷ [])
+    (courseOf 1 7 ∷ courseOf 1 1 ∷ courseOf 1 3 ∷ courseOf 1 4 ∷ courseOf 1 5 ∷ []))
+    2
+    (yearOf (termOf 1 2 1 2 ∷ termOf 1 2 1 2 ∷ termOf 2 3 2 3 ∷ [])
+    (courseOf 1 7 ∷ courseOf 1 1 ∷ courseOf 1 3 ∷ courseOf 1 4 ∷ courseOf 1 5 ∷ []))
+unfolding computing
+ties-open = refl
+
+-- ---- the two no plans of rule 10: rule-10-no-plan has too few courses for low count, this year more fixed than high count
+
+rule-10-over-high :
+    FindsNone (yearOf (termOf 0 1 0 0 ∷ termOf 0 2 0 2 ∷ termOf 0 2 0 2 ∷ []) (courseOf 2 6 ∷ courseOf 1 3 ∷ courseOf 1 5 ∷ [])) 10 1
+unfolding computing
+rule-10-over-high = refl

@@ -8,6 +8,7 @@ use Rattle.year.specs.Year.{termOf, courseOf, lowCredits, highCredits, lowCount
 use Rattle.year.specs.Narrow.{barOf}
 use Rattle.year.specs.Imbalance.{imbalanceOf}
 use Rattle.year.specs.Numbers.{narrowingNumber, imbalanceNumber, imbalanceValue}
+use Rattle.year.specs.Examples.{yearE}
 use Rattle.year.specs.declared.Year.{Year}
 use Rattle.records.specs.Numbers.{readingNumber}
 use Rattle.records.specs.Reading.{readList}
@@ -45,10 +46,7 @@ listOfWeight a b =
 abbrev pub numberOfWeight : ℕ → ℕ → ℕ
 numberOfWeight a b = readingNumber (readList (listOfWeight a b) .answer)
 
--- ---- the years of rows 1, 11 and 12
-
-abbrev pub yearE : Year
-yearE = yearOf (termOf 0 4 0 3 ∷ termOf 0 6 0 3 ∷ []) (courseOf 4 3 ∷ courseOf 3 3 ∷ courseOf 2 3 ∷ [])
+-- ---- the years of rows 11 and 12
 
 -- course 0 lists term 0 alone, of two terms
 abbrev pub oneTermListed : Year

@@ -18,7 +18,7 @@ use Rattle.records.specs.Writing.{joined, recordsOf, writeAnswer, writte
 -- ---- lists
 
 -- the bytes given, with zeros behind them up to sixteen
-abbrev padded : List ℕ → List ℕ
+abbrev pub padded : List ℕ → List ℕ
 padded l = l ++ replicate (16 - length l) 0
 
 -- term 0 with its four bounds

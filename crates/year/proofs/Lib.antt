@@ -3,3 +3,4 @@ pub mod SoundLaws
 pub mod CheckLaws
 pub mod DoorLaws
 pub mod SumLaws
+pub mod PlanCount

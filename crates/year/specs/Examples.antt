@@ -1,11 +1,12 @@
--- Closed examples, by computation: year E of the paper, and each answer of the narrowings and of the imbalance.
+-- Closed examples, by computation: year E of the paper and its plans, and each answer of the narrowings and of the imbalance.
 use Prim.Native.Nat.{ℕ}
 use mathlib.Core.Bool.{true, false}
-use mathlib.Core.List.{_∷_}
+use mathlib.Core.List.{[], _∷_}
 use mathlib.Core.Path.{_≡_, refl}
 use lib.ListN.{replicate}
 use Rattle.theory.specs.Sum.{sum}
 use Rattle.theory.specs.Tests.{all, any}
+use Rattle.theory.specs.Order.{keep}
 use Rattle.year.specs.Year.{termOf, courseOf, zeroTerm, zeroCourse, emptyYear, placed, withList, withTerm}
 use Rattle.year.specs.Sound.{isSound}
 use Rattle.year.specs.Sums.{fixedCredits, fixedCount, isPlaced, allPlaced}
@@ -13,6 +14,7 @@ use Rattle.year.specs.Tight.{creditsWithin, countsWithin}
 use Rattle.year.specs.Narrow.{answered, placeOf, barOf, raiseLowCreditsOf, lowerHighCreditsOf, raiseLowCountOf, lowerHighCountOf}
 use Rattle.theory.specs.Largest.{largest, smallest}
 use Rattle.year.specs.Imbalance.{onePlan, spreadOf, imbalanceOf}
+use Rattle.year.specs.Plans.{isPlan, behind, rows, plansOf, countOfPlans}
 use Rattle.year.specs.declared.Year.{Year}
 use Rattle.year.specs.declared.Narrowing.the-variants.{Done, Unsound, Missing, Outside, Crossing}
 use Rattle.year.specs.declared.Measured.the-variants as measured
@@ -207,3 +209,15 @@ no-plan = refl
 pub imbalance-unsound : imbalanceOf foreignE ≡ measured.Unsound
 unfolding imbalanceOf isSound all
 imbalance-unsound = refl
+
+-- ---- plans
+
+-- year E has two: course 0 or course 1 in term 0, and the others in term 1
+pub two-plans : (plansOf yearE ≡ (0 ∷ 1 ∷ 1 ∷ []) ∷ (1 ∷ 0 ∷ 1 ∷ []) ∷ []) × (countOfPlans yearE ≡ 2)
+unfolding plansOf keep rows behind isPlan sum all
+two-plans = (refl, refl)
+
+-- a year with none, and one with no course: its one plan places nothing
+pub no-and-one : (countOfPlans crowdedE ≡ 0) × (plansOf emptyYear ≡ [] ∷ []) × (countOfPlans emptyYear ≡ 1)
+unfolding plansOf keep rows behind isPlan sum all
+no-and-one = (refl, refl, refl)
