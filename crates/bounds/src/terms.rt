@@ -7,6 +7,7 @@ use year::Courses;
 use year::Credits;
 use year::Sums;
 use year::Term;
+use year::Year;
 use year::tighter;
 ghost use mathlib.Core.Path.{_≡_};
 ghost use Prim.Native.Nat.{ℕ, _-_, _≤_, _<_};
@@ -30,7 +31,7 @@ fn with_term(x: Totals, t: Term) -> Totals
 }
 
 // The sums of each bound over all sixteen entries.
-fn totals(term: [Term; 16]) -> Totals
+fn totals(term: [Term; Year::TERMS]) -> Totals
     requires { ⌜ ((k : ℕ) → k < 16 → TermSound (termIn term k)) ⌝ }
     ensures { λ r. ⌜ r ≡ totalsTo term 16 ⌝ }
 {
@@ -40,7 +41,7 @@ fn totals(term: [Term; 16]) -> Totals
         least: Courses(0),
         most: Courses(0),
     };
-    for k in 0..16 {
+    for k in 0..Year::TERMS {
         x = with_term(x, term[k]);
     }
     x
@@ -117,7 +118,7 @@ fn other_terms(q: Quantity, t: Term, x: Totals, all: u32) -> Outcome
 }
 
 // Rule 1 or 4 over the first m terms.
-pub fn over_own_sums(b: Bounds, q: Quantity, m: usize, sums: [Sums; 16]) -> Bounds
+pub fn over_own_sums(b: Bounds, q: Quantity, m: usize, sums: [Sums; Year::TERMS]) -> Bounds
     requires { ⌜ (m ≤ 16) × (length (b .term) ≡ 16) ⌝ }
     requires { ⌜ ((k : ℕ) → k < 16 → (sumsIn sums k .placed .0 ≤ 64) × (sumsIn sums k .free .0 ≤ 64)) ⌝ }
     ensures { λ r. ⌜ r ≡ boundsOver (ownSumsAt q sums) b m ⌝ }

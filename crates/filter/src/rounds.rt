@@ -136,8 +136,8 @@ pub fn run(y: Year) -> Filtered
     let weight = q.weight;
     let all = totals::all_credits(y);
     let mut o = Orders {
-        down: [0u8; 64],
-        up: [0u8; 64],
+        down: [0u8; Year::COURSES],
+        up: [0u8; Year::COURSES],
     };
     let mut s = start(y, q);
     let mut n: u32 = 0;

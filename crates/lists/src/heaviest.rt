@@ -26,10 +26,10 @@ fn heavier(heaviest: u32, c: Course, k: usize) -> u32
 }
 
 // All sixteen weights, with one course more.
-fn with_course(heaviest: [u32; 16], c: Course) -> [u32; 16]
+fn with_course(heaviest: [u32; Year::TERMS], c: Course) -> [u32; Year::TERMS]
     ensures { λ r. ⌜ r ≡ tab 16 (heaviestWith heaviest c) ⌝ }
 {
-    let mut r = [0u32; 16];
+    let mut r = [0u32; Year::TERMS];
     for k in 0..Year::TERMS {
         r[k] = heavier(heaviest[k], c, k);
     }
@@ -37,11 +37,11 @@ fn with_course(heaviest: [u32; 16], c: Course) -> [u32; 16]
 }
 
 // All sixteen, over the first n courses.
-pub fn heaviest(weight: &[u32], list: &[u16], n: usize) -> [u32; 16]
+pub fn heaviest(weight: &[u32], list: &[u16], n: usize) -> [u32; Year::TERMS]
     requires { ⌜ (n ≤ 64) × (n ≤ length (now weight)) × (n ≤ length (now list)) ⌝ }
     ensures { λ r. ⌜ r ≡ tab 16 (heaviestTo (coursesFrom (now (weight .entry)) (now (list .entry))) n) ⌝ }
 {
-    let mut heaviest = [0u32; 16];
+    let mut heaviest = [0u32; Year::TERMS];
     for i in 0..n {
         let next = with_course(heaviest, parts::course(weight, list, i));
         heaviest = next;

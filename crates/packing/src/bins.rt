@@ -1,6 +1,7 @@
 // The terms as bins: whether one is over its high credits already, and the room of the largest.
 use year::Sums;
 use year::Term;
+use year::Year;
 ghost use mathlib.Core.Path.{_≡_};
 ghost use Prim.Native.Nat.{_≤_};
 ghost use lib.ListN.{length};
@@ -8,7 +9,7 @@ ghost use Rattle.theory.specs.Tests.{any};
 ghost use Rattle.packing.specs.Bins.{burstIn, roomIn};
 
 // What is fixed in one of the first m terms exceeds its high credits.
-pub fn bursting(term: [Term; 16], m: usize, s: [Sums; 16]) -> bool
+pub fn bursting(term: [Term; Year::TERMS], m: usize, s: [Sums; Year::TERMS]) -> bool
     requires { ⌜ (m ≤ 16) × (length term ≡ 16) × (length s ≡ 16) ⌝ }
     ensures { λ r. ⌜ r ≡ any m (burstIn term s) ⌝ }
 {
@@ -20,7 +21,7 @@ pub fn bursting(term: [Term; 16], m: usize, s: [Sums; 16]) -> bool
 }
 
 // The largest high credits of the first m terms.
-pub fn room(term: [Term; 16], m: usize) -> u32
+pub fn room(term: [Term; Year::TERMS], m: usize) -> u32
     requires { ⌜ (m ≤ 16) × (length term ≡ 16) ⌝ }
     ensures { λ r. ⌜ r ≡ roomIn term m ⌝ }
 {

@@ -4,6 +4,7 @@ use totals::parts;
 use year::Course;
 use year::Sums;
 use year::Term;
+use year::Year;
 use year::tighter;
 ghost use mathlib.Core.Path.{_≡_};
 ghost use Prim.Native.Nat.{_+_, _-_, _/_, _≤_};
@@ -24,11 +25,11 @@ fn course_size(c: Course) -> u32
 }
 
 // The sizes of the first n courses; 0 past them.
-pub fn course_sizes(weight: &[u32], list: &[u16], n: usize) -> [u32; 64]
+pub fn course_sizes(weight: &[u32], list: &[u16], n: usize) -> [u32; Year::COURSES]
     requires { ⌜ (n ≤ 64) × (n ≤ length (now weight)) × (n ≤ length (now list)) ⌝ }
     ensures { λ r. ⌜ r ≡ tab 64 (firstOf n (sizeIn (now (weight .entry)) (now (list .entry)))) ⌝ }
 {
-    let mut r = [0u32; 64];
+    let mut r = [0u32; Year::COURSES];
     for i in 0..n {
         r[i] = course_size(parts::course(weight, list, i));
     }
@@ -36,11 +37,16 @@ pub fn course_sizes(weight: &[u32], list: &[u16], n: usize) -> [u32; 64]
 }
 
 // The sizes of the first m terms with room c; 0 past them.
-pub fn term_sizes(term: [Term; 16], m: usize, s: [Sums; 16], c: u32) -> [u32; 16]
+pub fn term_sizes(
+    term: [Term; Year::TERMS],
+    m: usize,
+    s: [Sums; Year::TERMS],
+    c: u32,
+) -> [u32; Year::TERMS]
     requires { ⌜ (m ≤ 16) × (length term ≡ 16) × (length s ≡ 16) ⌝ }
     ensures { λ r. ⌜ r ≡ tab 16 (firstOf m (usedIn term s c)) ⌝ }
 {
-    let mut r = [0u32; 16];
+    let mut r = [0u32; Year::TERMS];
     for k in 0..m {
         r[k] = tighter::less(c, tighter::less(term[k].high.0, s[k].fixed.0));
     }

@@ -24,7 +24,7 @@ fn fits(t: Term, s: Sums) -> bool
 }
 
 // What is fixed in each term is within its bounds.
-fn all_fit(y: Year, s: [Sums; 16]) -> bool
+fn all_fit(y: Year, s: [Sums; Year::TERMS]) -> bool
     requires { ⌜ Sound y ⌝ }
     requires { ⌜ s ≡ tab 16 (sumsAt y) ⌝ }
     ensures { λ r. ⌜ r ≡ all (y .terms) (fitsAt y) ⌝ }
@@ -37,7 +37,7 @@ fn all_fit(y: Year, s: [Sums; 16]) -> bool
 }
 
 // The credits of the heaviest term.
-fn heaviest(y: Year, s: [Sums; 16]) -> u32
+fn heaviest(y: Year, s: [Sums; Year::TERMS]) -> u32
     requires { ⌜ Sound y ⌝ }
     requires { ⌜ s ≡ tab 16 (sumsAt y) ⌝ }
     ensures { λ r. ⌜ r ≡ largest (y .terms) (fixedCredits y) ⌝ }
@@ -51,7 +51,7 @@ fn heaviest(y: Year, s: [Sums; 16]) -> u32
 }
 
 // The credits of the lightest term.
-fn lightest(y: Year, s: [Sums; 16]) -> u32
+fn lightest(y: Year, s: [Sums; Year::TERMS]) -> u32
     requires { ⌜ Sound y ⌝ }
     requires { ⌜ s ≡ tab 16 (sumsAt y) ⌝ }
     ensures { λ r. ⌜ r ≡ smallest (y .terms) (fixedCredits y) ⌝ }

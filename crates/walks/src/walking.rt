@@ -10,6 +10,7 @@ use totals::parts;
 use year::Course;
 use year::Sums;
 use year::Term;
+use year::Year;
 use year::doors;
 use year::tighter;
 ghost use mathlib.Core.Path.{_≡_};
@@ -90,7 +91,7 @@ fn walked(
 }
 
 // A walk that begins with what is fixed in its term.
-fn begun(spare: [u8; 16], u: Sums) -> Walk
+fn begun(spare: [u8; Year::TERMS], u: Sums) -> Walk
     ensures { λ r. ⌜ r ≡ begunOf spare u ⌝ }
 {
     Walk {
@@ -140,7 +141,7 @@ fn by_walk(
     rule: WalkRule,
     t: Term,
     u: Sums,
-    spare: [u8; 16],
+    spare: [u8; Year::TERMS],
     n: usize,
     weight: &[u32],
     list: &[u16],
@@ -169,7 +170,7 @@ pub fn walk_rule(
     rule: WalkRule,
     m: usize,
     n: usize,
-    sums: [Sums; 16],
+    sums: [Sums; Year::TERMS],
     tallies: Tallies,
     weight: &[u32],
     list: &[u16],
