@@ -146,9 +146,9 @@ pub fn all_credits(y: Year) -> Credits
     requires { ⌜ Sound y ⌝ }
     ensures { λ r. ⌜ r .0 ≡ allCredits y ⌝ }
 {
-    let mut total: u32 = 0;
+    let mut total = Credits(0);
     for i in 0..y.courses {
-        total += y.course[i].weight.0;
+        total.0 += y.course[i].weight.0;
     }
-    Credits(total)
+    total
 }
