@@ -24,27 +24,28 @@ pub fn each_course(s: State, weight: &[u32], j: usize, whole: TermVerdict) -> Ca
     let t = s.term[j];
     let u = s.sums[j];
     let list = s.list;
+    let fixed = u.fixed;
+    let possible = u.possible;
     let mut k = Carried {
         list: list,
-        fixed: u.fixed.0,
-        possible: u.possible.0,
+        fixed: fixed,
+        possible: possible,
         altered: false,
     };
     let mut i = 0;
     while i < s.courses {
         // only courses before i were altered
         let c = parts::course(weight, &list, i);
-        let credits = c.weight.0;
         let v = verdicts::course_verdict(whole, c, t, k.fixed, k.possible, j);
         match v {
             Verdict::Struck => {
                 k.list[i] = c.list - doors::power(j);
-                k.possible = k.possible - credits;
+                k.possible.0 = k.possible.0 - c.weight.0;
                 k.altered = true;
             }
             Verdict::Fixed => {
                 k.list[i] = doors::power(j);
-                k.fixed = k.fixed + credits;
+                k.fixed.0 = k.fixed.0 + c.weight.0;
                 k.altered = true;
             }
             Verdict::Stays => {}

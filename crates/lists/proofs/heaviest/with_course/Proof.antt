@@ -44,14 +44,14 @@ loop-again : tie.Need-loop-again Inv-loop μ-loop
 loop-again c =
     let l = c .before .before in
     let b = l .before in
-    (search needs, ap₂ (λ r v. set r (l .loop .k) v) (l .loop .inv .1) (c .heavier .ensures) ∙ sym (fill-more (heaviestWith (b .args .t1) (b .args .c)) (replicate 16 0) (l .loop .k)))
+    (search needs, ap₂ (λ r v. set r (l .loop .k) v) (l .loop .inv .1) (c .heavier .ensures) ∙ sym (fill-more (heaviestWith (b .args .t1) (b .args .c)) (replicate 16 (record { 0 = 0 })) (l .loop .k)))
 
 returns : tie.Need-returns Inv-loop μ-loop
 returns c =
     let l = c .before in
     let f = heaviestWith (l .before .args .t1) (l .before .args .c) in
     let is : l .loop .k ≡ 16 = omega arith in
-    l .loop .inv .1 ∙ ap (fill f (replicate 16 0)) is ∙ fill-all f (replicate 16 0) 0 16 (length-replicate {A = ℕ} 16 0)
+    l .loop .inv .1 ∙ ap (fill f (replicate 16 (record { 0 = 0 }))) is ∙ fill-all f (replicate 16 (record { 0 = 0 })) (record { 0 = 0 }) 16 (length-replicate {A = Credits} 16 (record { 0 = 0 }))
 
 pub with-course-spec : {M : Type 1} → statement M
 with-course-spec =

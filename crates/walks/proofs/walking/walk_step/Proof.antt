@@ -27,7 +27,7 @@ is-listed c =
     and-true (lists (a .c) (a .j)) (not (isFixed (a .c) (a .j))) (is-open c) .0
 
 -- the second test is the definition's
-test-is : (c : tie.After-blocked) → let a = c .before .before .before .before .before .before .before .args in stops (a .until) (a .w .credits) (a .w .count) (a .c .weight .0) || blocked (a .j) (a .w .spare) (a .c) ≡ c .before .stops .result || c .blocked .result
+test-is : (c : tie.After-blocked) → let a = c .before .before .before .before .before .before .before .args in stops (a .until) (a .w .credits .0) (a .w .count .0) (a .c .weight .0) || blocked (a .j) (a .w .spare) (a .c) ≡ c .before .stops .result || c .blocked .result
 test-is c =
     let p = c .before .before .before in
     let e = p .before .before in
@@ -66,7 +66,7 @@ returns-2 c =
     let b = c .before in
     let e = b .before .before .before .before .before in
     let w = e .before .before .args .w in (
-      simp (is-open e, test-is b ∙ c .if2 .taken) (ap (λ t. walkAs (w .spare) (w .credits) (w .count) t) (b .before .stops .ensures)),
+      simp (is-open e, test-is b ∙ c .if2 .taken) (ap (λ t. walkAs (w .spare) (w .credits .0) (w .count .0) t) (b .before .stops .ensures)),
       search needs,
     )
 
@@ -91,7 +91,7 @@ returns-3 c =
     h .charged .ensures
     ∙ ap (λ q. tab 16 (chargedAt (a .w .spare) (a .c .list - q))) (p .power .ensures)
     ∙ charged-is (a .w .spare) (a .c) (a .j) (is-listed e) in (
-      simp (is-open e, test-is b ∙ h .before .if2 .left) (ap (λ s. walkAs s (a .w .credits + a .c .weight .0) (a .w .count + 1) false) rest),
+      simp (is-open e, test-is b ∙ h .before .if2 .left) (ap (λ s. walkAs s (a .w .credits .0 + a .c .weight .0) (a .w .count .0 + 1) false) rest),
       search needs,
     )
 
