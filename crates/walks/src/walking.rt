@@ -112,11 +112,15 @@ fn begun(spare: [u8; Year::TERMS], u: Sums) -> Walk
 fn until(rule: WalkRule, t: Term) -> Until
     ensures { λ r. ⌜ r ≡ untilOf rule t ⌝ }
 {
+    let low = t.low;
+    let high = t.high;
+    let least = t.least;
+    let most = t.most;
     match rule {
-        WalkRule::LeastCount => Until::Credits(t.low),
-        WalkRule::MostCount => Until::Past(t.high),
-        WalkRule::LeastLoad => Until::Count(t.least),
-        WalkRule::MostLoad => Until::Count(t.most),
+        WalkRule::LeastCount => Until::Credits(low),
+        WalkRule::MostCount => Until::Past(high),
+        WalkRule::LeastLoad => Until::Count(least),
+        WalkRule::MostLoad => Until::Count(most),
     }
 }
 
