@@ -36,16 +36,17 @@ pub fn each_course(s: State, weight: &[u32], j: usize, whole: TermVerdict) -> Ca
     while i < s.courses {
         // only courses before i were altered
         let c = parts::course(weight, &list, i);
+        let credits = c.weight.0;
         let v = verdicts::course_verdict(whole, c, t, k.fixed, k.possible, j);
         match v {
             Verdict::Struck => {
                 k.list[i] = c.list - doors::power(j);
-                k.possible.0 = k.possible.0 - c.weight.0;
+                k.possible.0 = k.possible.0 - credits;
                 k.altered = true;
             }
             Verdict::Fixed => {
                 k.list[i] = doors::power(j);
-                k.fixed.0 = k.fixed.0 + c.weight.0;
+                k.fixed.0 = k.fixed.0 + credits;
                 k.altered = true;
             }
             Verdict::Stays => {}
