@@ -24,8 +24,8 @@ use Rattle.rules.specs.Bounds.{rule1, rule2, rule4, rule5}
 use Rattle.rules.proofs.Steps.{credits-tighter, counts-tighter}
 use Rattle.bounds.specs.AtTerm.{totalsTo, totalsWith, totalsAfter, rule1Of, rule2Of, rule4Of, rule5Of, otherTermsOf}
 use Rattle.bounds.specs.declared.Totals.{Totals}
-use Rattle.bounds.specs.declared.Quantity.{Quantity}
-use Rattle.bounds.specs.declared.Quantity.the-variants.{Credits, Counts}
+use Rattle.bounds.specs.declared.Whole.{Whole}
+use Rattle.bounds.specs.declared.Whole.the-variants as whole
 
 -- ---- one entry more
 
@@ -82,9 +82,9 @@ module _ (t : List Term) (j : ℕ) (l : j < 16) where
         ∙ (λ i. record { low = record { 0 = a i }; high = record { 0 = b i }; least = record { 0 = c i }; most = record { 0 = d i } })
 
 -- a rule on bounds leaves a term within the sizes
-pub other-terms-sound : (q : Quantity) (t : Term) (x : Totals) (all : ℕ) → TermSound t → TermSound (otherTermsOf q t x all .term)
-other-terms-sound Credits t x all s = credits-tighter 2 _ t _ _ s .sound
-other-terms-sound Counts t x all s = counts-tighter 5 _ t _ _ s .sound
+pub other-terms-sound : (all : Whole) (t : Term) (x : Totals) → TermSound t → TermSound (otherTermsOf all t x .term)
+other-terms-sound (whole.Credits all) t x s = credits-tighter 2 _ t _ _ s .sound
+other-terms-sound (whole.Counts all) t x s = counts-tighter 5 _ t _ _ s .sound
 
 -- ---- in a sound year
 

@@ -6,6 +6,8 @@ use Rattle.theory.specs.Tab.{tab}
 use Rattle.year.specs.Year.{termAt}
 use Rattle.year.specs.Sums.{allCredits}
 use Rattle.year.specs.SumsOf.{sumsAt}
+use Rattle.year.specs.declared.Courses.{Courses}
+use Rattle.year.specs.declared.Credits as credits
 use Rattle.year.specs.declared.Sums.{Sums}
 use Rattle.year.specs.declared.Year.{Year}
 use Rattle.year.proofs.SumLaws.{sums-read}
@@ -18,7 +20,8 @@ use Rattle.frame.specs.declared.Bounds.{Bounds}
 use Rattle.frame.proofs.BoundsOnly.{BoundsOnly, sums-same, credits-kept}
 use Rattle.frame.proofs.BoundsAt.{BoundsAt, at-next}
 use Rattle.bounds.specs.declared.Quantity.the-variants.{Credits, Counts}
-use Rattle.bounds.specs.AtTerm.{ownSumsAt, otherTermsAt, rule1Of, rule4Of}
+use Rattle.bounds.specs.declared.Whole.the-variants as whole
+use Rattle.bounds.specs.AtTerm.{totalsTo, ownSumsAt, otherTermsAt, rule1Of, rule2Of, rule4Of, rule5Of}
 use Rattle.bounds.proofs.AtTermLaws.{rule1-is, rule2-is, rule4-is, rule5-is}
 
 -- ---- the outcome at a term, from what the code reads there
@@ -33,15 +36,17 @@ module _ (y : Year) (u : List Sums) (e : u ≡ tab 16 (sumsAt y)) (j : ℕ) (h :
 -- ---- rules in a row
 
 module _ (p : Step) (b : Bounds) (q : Step) (g : BoundsAt p b q) where
-  pub row-2 : (c : Bounds) (all : ℕ) → all ≡ allCredits (p .year) → c ≡ boundsOver (otherTermsAt Credits all) b (p .year .terms) → BoundsAt p c (overTerms (bounded rule2) q)
+  pub row-2 : (c : Bounds) (all : credits.Credits) → all .0 ≡ allCredits (p .year) → c ≡ boundsOver (otherTermsAt (whole.Credits all)) b (p .year .terms)
+      → BoundsAt p c (overTerms (bounded rule2) q)
   row-2 c all e =
-      at-next p b q g (otherTermsAt Credits all) rule2 narrows-2
-      (λ y j k h l. ap (λ a. otherTermsAt Credits a (y .term) j) (e ∙ sym (credits-kept (p .year) y k)) ∙ rule2-is y (k .narrower .sound) j l) c
+      at-next p b q g (otherTermsAt (whole.Credits all)) rule2 narrows-2
+      (λ y j k h l. ap (rule2Of (termAt y j) (totalsTo (y .term) 16)) (e ∙ sym (credits-kept (p .year) y k)) ∙ rule2-is y (k .narrower .sound) j l) c
 
-  pub row-5 : (c : Bounds) → c ≡ boundsOver (otherTermsAt Counts (p .year .courses)) b (p .year .terms) → BoundsAt p c (overTerms (bounded rule5) q)
-  row-5 c =
-      at-next p b q g (otherTermsAt Counts (p .year .courses)) rule5 narrows-5
-      (λ y j k h l. ap (λ a. otherTermsAt Counts a (y .term) j) (sym (k .narrower .courses-same)) ∙ rule5-is y (k .narrower .sound) j l) c
+  pub row-5 : (c : Bounds) (all : Courses) → all .0 ≡ p .year .courses → c ≡ boundsOver (otherTermsAt (whole.Counts all)) b (p .year .terms)
+      → BoundsAt p c (overTerms (bounded rule5) q)
+  row-5 c all e =
+      at-next p b q g (otherTermsAt (whole.Counts all)) rule5 narrows-5
+      (λ y j k h l. ap (rule5Of (termAt y j) (totalsTo (y .term) 16)) (e ∙ sym (k .narrower .courses-same)) ∙ rule5-is y (k .narrower .sound) j l) c
 
   module _ (u : List Sums) (e : u ≡ tab 16 (sumsAt (p .year))) (c : Bounds) where
     sums-now : (y : Year) → BoundsOnly (p .year) y → u ≡ tab 16 (sumsAt y)

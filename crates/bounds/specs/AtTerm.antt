@@ -13,6 +13,8 @@ use Rattle.rules.specs.declared.Outcome.{Outcome}
 use Rattle.bounds.specs.declared.Totals.{Totals}
 use Rattle.bounds.specs.declared.Quantity.{Quantity}
 use Rattle.bounds.specs.declared.Quantity.the-variants.{Credits, Counts}
+use Rattle.bounds.specs.declared.Whole.{Whole}
+use Rattle.bounds.specs.declared.Whole.the-variants as whole
 
 -- ---- sums of bounds
 
@@ -67,14 +69,14 @@ abbrev pub ownSumsOf : Quantity → Term → Sums → Outcome
 ownSumsOf Credits t u = rule1Of t u
 ownSumsOf Counts t u = rule4Of t u
 
-abbrev pub otherTermsOf : Quantity → Term → Totals → ℕ → Outcome
-otherTermsOf Credits t x all = rule2Of t x all
-otherTermsOf Counts t x all = rule5Of t x all
+abbrev pub otherTermsOf : Whole → Term → Totals → Outcome
+otherTermsOf (whole.Credits all) t x = rule2Of t x (all .0)
+otherTermsOf (whole.Counts all) t x = rule5Of t x (all .0)
 
 -- ---- at term j of an array
 
 abbrev pub ownSumsAt : Quantity → List Sums → List Term → ℕ → Outcome
 ownSumsAt q u t j = ownSumsOf q (termIn t j) (sumsIn u j)
 
-abbrev pub otherTermsAt : Quantity → ℕ → List Term → ℕ → Outcome
-otherTermsAt q all t j = otherTermsOf q (termIn t j) (totalsTo t 16) all
+abbrev pub otherTermsAt : Whole → List Term → ℕ → Outcome
+otherTermsAt all t j = otherTermsOf all (termIn t j) (totalsTo t 16)

@@ -16,6 +16,12 @@ pub enum Quantity {
     Counts,
 }
 
+// What all terms together share out: all credits for rule 2, all courses for rule 5.
+pub enum Whole {
+    Credits(Credits),
+    Counts(Courses),
+}
+
 // The sums of each bound over all terms.
 pub struct Totals {
     pub low: Credits,
@@ -25,15 +31,15 @@ pub struct Totals {
 }
 
 // Rules 1 and 2. The weights are those of the year that the state holds, and `all` is their sum.
-pub fn rules_1_2(s: State, weight: &[u32], all: u32) -> State
+pub fn rules_1_2(s: State, weight: &[u32], all: Credits) -> State
     requires { ⌜ Sound (yearIn (now weight) s) ⌝ }
     requires { ⌜ s ≡ held (stepIn (now weight) s) ⌝ }
-    requires { ⌜ all ≡ allCredits (yearIn (now weight) s) ⌝ }
+    requires { ⌜ all .0 ≡ allCredits (yearIn (now weight) s) ⌝ }
     ensures { λ r. ⌜ r ≡ held (inRow (passesOf 1 2) (stepIn (now (weight .entry)) s)) ⌝ }
 {
     let sums = s.sums;
     let b1 = terms::over_own_sums(frame::bounds_of(s), Quantity::Credits, s.terms, sums);
-    let b2 = terms::over_other_terms(b1, Quantity::Credits, s.terms, all);
+    let b2 = terms::over_other_terms(b1, Whole::Credits(all), s.terms);
     frame::with_bounds(s, b2)
 }
 
@@ -45,6 +51,6 @@ pub fn rules_4_5(s: State, weight: &[u32]) -> State
 {
     let sums = s.sums;
     let b4 = terms::over_own_sums(frame::bounds_of(s), Quantity::Counts, s.terms, sums);
-    let b5 = terms::over_other_terms(b4, Quantity::Counts, s.terms, s.courses as u32);
+    let b5 = terms::over_other_terms(b4, Whole::Counts(Courses(s.courses as u32)), s.terms);
     frame::with_bounds(s, b5)
 }

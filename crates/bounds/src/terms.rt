@@ -1,12 +1,14 @@
 // Rules 1, 2, 4 and 5: a term's bounds against its own sums, and against the other terms' bounds.
 use crate::Quantity;
 use crate::Totals;
+use crate::Whole;
 use frame::Bounds;
 use rules::Outcome;
 use year::Courses;
 use year::Credits;
 use year::Sums;
 use year::Term;
+use year::Year;
 use year::tighter;
 ghost use mathlib.Core.Path.{_≡_};
 ghost use Prim.Native.Nat.{ℕ, _-_, _≤_, _<_};
@@ -30,7 +32,7 @@ fn with_term(x: Totals, t: Term) -> Totals
 }
 
 // The sums of each bound over all sixteen entries.
-fn totals(term: [Term; 16]) -> Totals
+fn totals(term: [Term; Year::TERMS]) -> Totals
     requires { ⌜ ((k : ℕ) → k < 16 → TermSound (termIn term k)) ⌝ }
     ensures { λ r. ⌜ r ≡ totalsTo term 16 ⌝ }
 {
@@ -40,7 +42,7 @@ fn totals(term: [Term; 16]) -> Totals
         least: Courses(0),
         most: Courses(0),
     };
-    for k in 0..16 {
+    for k in 0..Year::TERMS {
         x = with_term(x, term[k]);
     }
     x
@@ -49,25 +51,17 @@ fn totals(term: [Term; 16]) -> Totals
 fn rule_1(t: Term, u: Sums) -> Outcome
     ensures { λ r. ⌜ r ≡ rule1Of t u ⌝ }
 {
-    frame::outcome(
-        1,
-        false,
-        t,
-        tighter::credits_within(t, u.fixed.0, u.possible.0),
-    )
+    frame::outcome(1, false, t, tighter::credits_within(t, u.fixed, u.possible))
 }
 
-fn rule_2(t: Term, x: Totals, all: u32) -> Outcome
-    ensures { λ r. ⌜ r ≡ rule2Of t x all ⌝ }
+fn rule_2(t: Term, x: Totals, all: Credits) -> Outcome
+    ensures { λ r. ⌜ r ≡ rule2Of t x (all .0) ⌝ }
 {
     let lows = tighter::less(x.low.0, t.low.0);
     let highs = tighter::less(x.high.0, t.high.0);
-    frame::outcome(
-        2,
-        all < lows,
-        t,
-        tighter::credits_within(t, tighter::less(all, highs), tighter::less(all, lows)),
-    )
+    let low = Credits(tighter::less(all.0, highs));
+    let high = Credits(tighter::less(all.0, lows));
+    frame::outcome(2, all.0 < lows, t, tighter::credits_within(t, low, high))
 }
 
 fn rule_4(t: Term, u: Sums) -> Outcome
@@ -78,21 +72,18 @@ fn rule_4(t: Term, u: Sums) -> Outcome
         4,
         false,
         t,
-        tighter::counts_within(t, u.placed.0, u.placed.0 + u.free.0),
+        tighter::counts_within(t, u.placed, Courses(u.placed.0 + u.free.0)),
     )
 }
 
-fn rule_5(t: Term, x: Totals, all: u32) -> Outcome
-    ensures { λ r. ⌜ r ≡ rule5Of t x all ⌝ }
+fn rule_5(t: Term, x: Totals, all: Courses) -> Outcome
+    ensures { λ r. ⌜ r ≡ rule5Of t x (all .0) ⌝ }
 {
     let leasts = tighter::less(x.least.0, t.least.0);
     let mosts = tighter::less(x.most.0, t.most.0);
-    frame::outcome(
-        5,
-        all < leasts,
-        t,
-        tighter::counts_within(t, tighter::less(all, mosts), tighter::less(all, leasts)),
-    )
+    let least = Courses(tighter::less(all.0, mosts));
+    let most = Courses(tighter::less(all.0, leasts));
+    frame::outcome(5, all.0 < leasts, t, tighter::counts_within(t, least, most))
 }
 
 // Rule 1 for credits, rule 4 for counts.
@@ -107,17 +98,17 @@ fn own_sums(q: Quantity, t: Term, u: Sums) -> Outcome
 }
 
 // Rule 2 for credits, rule 5 for counts.
-fn other_terms(q: Quantity, t: Term, x: Totals, all: u32) -> Outcome
-    ensures { λ r. ⌜ r ≡ otherTermsOf q t x all ⌝ }
+fn other_terms(all: Whole, t: Term, x: Totals) -> Outcome
+    ensures { λ r. ⌜ r ≡ otherTermsOf all t x ⌝ }
 {
-    match q {
-        Quantity::Credits => rule_2(t, x, all),
-        Quantity::Counts => rule_5(t, x, all),
+    match all {
+        Whole::Credits(a) => rule_2(t, x, a),
+        Whole::Counts(a) => rule_5(t, x, a),
     }
 }
 
 // Rule 1 or 4 over the first m terms.
-pub fn over_own_sums(b: Bounds, q: Quantity, m: usize, sums: [Sums; 16]) -> Bounds
+pub fn over_own_sums(b: Bounds, q: Quantity, m: usize, sums: [Sums; Year::TERMS]) -> Bounds
     requires { ⌜ (m ≤ 16) × (length (b .term) ≡ 16) ⌝ }
     requires { ⌜ ((k : ℕ) → k < 16 → (sumsIn sums k .placed .0 ≤ 64) × (sumsIn sums k .free .0 ≤ 64)) ⌝ }
     ensures { λ r. ⌜ r ≡ boundsOver (ownSumsAt q sums) b m ⌝ }
@@ -151,10 +142,10 @@ fn changed(x: Totals, t: Term, v: Term) -> Totals
 }
 
 // Rule 2 or 5 over the first m terms. The sums over all terms are kept up to date from term to term.
-pub fn over_other_terms(b: Bounds, q: Quantity, m: usize, all: u32) -> Bounds
+pub fn over_other_terms(b: Bounds, all: Whole, m: usize) -> Bounds
     requires { ⌜ (m ≤ 16) × (length (b .term) ≡ 16) ⌝ }
     requires { ⌜ ((k : ℕ) → k < 16 → TermSound (termIn (b .term) k)) ⌝ }
-    ensures { λ r. ⌜ r ≡ boundsOver (otherTermsAt q all) b m ⌝ }
+    ensures { λ r. ⌜ r ≡ boundsOver (otherTermsAt all) b m ⌝ }
 {
     let mut z = b;
     let term = b.term;
@@ -162,7 +153,7 @@ pub fn over_other_terms(b: Bounds, q: Quantity, m: usize, all: u32) -> Bounds
     let mut j = 0;
     while (j < m) & (z.rule == 0) {
         let t = z.term[j];
-        let o = other_terms(q, t, x, all);
+        let o = other_terms(all, t, x);
         let v = o.term;
         x = changed(x, t, v);
         z.term[j] = v;

@@ -5,6 +5,7 @@ use frame::State;
 use orders::Orders;
 use totals::Columns;
 use totals::parts;
+use year::Credits;
 use year::Year;
 ghost use mathlib.Core.Path.{_≡_};
 ghost use Prim.Native.Nat.{ℕ, _≤_, _<_};
@@ -41,11 +42,11 @@ fn start(y: Year, q: Columns) -> State
 }
 
 // Rules 1 to 5 in order, up to one that finds no plan.
-fn first_half(s: State, weight: &[u32], all: u32) -> State
+fn first_half(s: State, weight: &[u32], all: Credits) -> State
     requires { ⌜ length (now weight) ≡ 64 ⌝ }
     requires { ⌜ Sound (yearIn (now weight) s) ⌝ }
     requires { ⌜ s ≡ held (live (yearIn (now weight) s)) ⌝ }
-    requires { ⌜ all ≡ allCredits (yearIn (now weight) s) ⌝ }
+    requires { ⌜ all .0 ≡ allCredits (yearIn (now weight) s) ⌝ }
     ensures { λ r. ⌜ r ≡ held (firstHalf (yearIn (now (weight .entry)) s)) ⌝ }
 {
     let r2 = bounds::rules_1_2(s, weight, all);
@@ -136,13 +137,13 @@ pub fn run(y: Year) -> Filtered
     let weight = q.weight;
     let all = totals::all_credits(y);
     let mut o = Orders {
-        down: [0u8; 64],
-        up: [0u8; 64],
+        down: [0u8; Year::COURSES],
+        up: [0u8; Year::COURSES],
     };
     let mut s = start(y, q);
     let mut n: u32 = 0;
     loop {
-        s = first_half(s, &weight, all.0);
+        s = first_half(s, &weight, all);
         n += 1;
         if s.rule != 0 {
             return no_plan(y, s.rule, n);

@@ -3,6 +3,7 @@ use rules::Outcome;
 use year::Sums;
 use year::Term;
 use year::Tight;
+use year::Year;
 ghost use mathlib.Core.Path.{_≡_};
 ghost use Rattle.rules.specs.Step.{outcome};
 ghost use Rattle.frame.specs.Bounds.{withBounds};
@@ -12,16 +13,16 @@ ghost use Rattle.frame.specs.Bounds.{withBounds};
 pub struct State {
     pub terms: usize,
     pub courses: usize,
-    pub term: [Term; 16],
-    pub list: [u16; 64],
-    pub sums: [Sums; 16],
+    pub term: [Term; Year::TERMS],
+    pub list: [u16; Year::COURSES],
+    pub sums: [Sums; Year::TERMS],
     pub altered: bool,
     pub rule: u32,
 }
 
 // The bounds of a year on their way through rules that alter nothing else.
 pub struct Bounds {
-    pub term: [Term; 16],
+    pub term: [Term; Year::TERMS],
     pub altered: bool,
     pub rule: u32,
 }

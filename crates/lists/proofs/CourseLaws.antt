@@ -31,8 +31,8 @@ use Rattle.lists.proofs.SumsAfter.{is-listed as lists-it, weight-le, st
 
 -- ---- a year's lists with its p and P
 
-pub carried-is : (k : Carried) (y : Year) (a : Bool) (j : ℕ) → k .list ≡ listsOf y → k .fixed ≡ fixedCredits y j → k .possible ≡ possibleCredits y j → k .altered ≡ a → k ≡ carried y a j
-carried-is k y a j p q r t = λ n. record { list = p n; fixed = q n; possible = r n; altered = t n }
+pub carried-is : (k : Carried) (y : Year) (a : Bool) (j : ℕ) → k .list ≡ listsOf y → k .fixed .0 ≡ fixedCredits y j → k .possible .0 ≡ possibleCredits y j → k .altered ≡ a → k ≡ carried y a j
+carried-is k y a j p q r t = λ n. record { list = p n; fixed = record { 0 = q n }; possible = record { 0 = r n }; altered = t n }
 
 -- another list of course i
 lists-after : (y : Year) (i l : ℕ) → i < length (y .course) → set (listsOf y) i l ≡ listsOf (withList y i l)
@@ -120,14 +120,14 @@ carriedTo w y j n = carriedOf (overTo (courseJudged w j) (live y) n) j
 
 -- c is course i, k what is carried when it is come to, and p the list of term j alone
 pub record Turn (w : TermVerdict) (y : Year) (j i : ℕ) (k : Carried) (c : Course) : Type 0 where
-  pub p-small : k .fixed + c .weight .0 ≤ 65000
-  pub stays : courseVerdict w c (termAt y j) (k .fixed) (k .possible) j ≡ Stays → k ≡ carriedTo w y j (i + 1)
-  pub is-listed : courseVerdict w c (termAt y j) (k .fixed) (k .possible) j ≡ Struck → 2 ^ j ≤ c .list
-  pub is-possible : courseVerdict w c (termAt y j) (k .fixed) (k .possible) j ≡ Struck → c .weight .0 ≤ k .possible
-  pub strikes : courseVerdict w c (termAt y j) (k .fixed) (k .possible) j ≡ Struck → (p : ℕ) → p ≡ 2 ^ j
-      → record { list = set (k .list) i (c .list - p); fixed = k .fixed; possible = k .possible - c .weight .0; altered = true } ≡ carriedTo w y j (i + 1)
-  pub fixes : courseVerdict w c (termAt y j) (k .fixed) (k .possible) j ≡ Fixed → (p : ℕ) → p ≡ 2 ^ j
-      → record { list = set (k .list) i p; fixed = k .fixed + c .weight .0; possible = k .possible; altered = true } ≡ carriedTo w y j (i + 1)
+  pub p-small : k .fixed .0 + c .weight .0 ≤ 65000
+  pub stays : courseVerdict w c (termAt y j) (k .fixed .0) (k .possible .0) j ≡ Stays → k ≡ carriedTo w y j (i + 1)
+  pub is-listed : courseVerdict w c (termAt y j) (k .fixed .0) (k .possible .0) j ≡ Struck → 2 ^ j ≤ c .list
+  pub is-possible : courseVerdict w c (termAt y j) (k .fixed .0) (k .possible .0) j ≡ Struck → c .weight .0 ≤ k .possible .0
+  pub strikes : courseVerdict w c (termAt y j) (k .fixed .0) (k .possible .0) j ≡ Struck → (p : ℕ) → p ≡ 2 ^ j
+      → record { list = set (k .list) i (c .list - p); fixed = k .fixed; possible = record { 0 = k .possible .0 - c .weight .0 }; altered = true } ≡ carriedTo w y j (i + 1)
+  pub fixes : courseVerdict w c (termAt y j) (k .fixed .0) (k .possible .0) j ≡ Fixed → (p : ℕ) → p ≡ 2 ^ j
+      → record { list = set (k .list) i p; fixed = record { 0 = k .fixed .0 + c .weight .0 }; possible = k .possible; altered = true } ≡ carriedTo w y j (i + 1)
 
 module _ (w : TermVerdict) (y : Year) (j i : ℕ) (k : Carried) (c : Course) (sound : Sound y) (j-in : j < y .terms) (i-in : i < y .courses) (inv : k ≡ carriedTo w y j i)
     (is : c ≡ courseAt y i) where
@@ -135,7 +135,7 @@ module _ (w : TermVerdict) (y : Year) (j i : ℕ) (k : Carried) (c : Course) (so
   s = overTo (courseJudged w j) (live y) i
 
   abbrev v : Verdict
-  v = courseVerdict w c (termAt y j) (k .fixed) (k .possible) j
+  v = courseVerdict w c (termAt y j) (k .fixed .0) (k .possible .0) j
 
   o : Onward y i s
   o = onward w j y i
@@ -150,11 +150,11 @@ module _ (w : TermVerdict) (y : Year) (j i : ℕ) (k : Carried) (c : Course) (so
   course : c ≡ courseAt (s .year) i
   course = is ∙ sym (o .course-same i (omega arith))
 
-  fixed-is : k .fixed ≡ fixedCredits (s .year) j
-  fixed-is = ap (λ (z : Carried). z .fixed) inv
+  fixed-is : k .fixed .0 ≡ fixedCredits (s .year) j
+  fixed-is = ap (λ (z : Carried). z .fixed .0) inv
 
-  possible-is : k .possible ≡ possibleCredits (s .year) j
-  possible-is = ap (λ (z : Carried). z .possible) inv
+  possible-is : k .possible .0 ≡ possibleCredits (s .year) j
+  possible-is = ap (λ (z : Carried). z .possible .0) inv
 
   -- the verdict by the numbers at hand is that by the sums read anew
   same : v ≡ verdictAt w j (s .year) i
@@ -164,7 +164,7 @@ module _ (w : TermVerdict) (y : Year) (j i : ℕ) (k : Carried) (c : Course) (so
   after u e = ap (λ t. carriedOf t j) (sym (fold-more goes (then (courseJudged w j)) (live y) i ∙ judged-turn w j s i u (o .goes-on) (sym same ∙ e)))
 
   is-open : (v ≡ Stays → ⊥) → isOpen (courseAt (s .year) i) j ≡ true
-  is-open d = rw course at (verdict-open w c (termAt y j) (k .fixed) (k .possible) j d)
+  is-open d = rw course at (verdict-open w c (termAt y j) (k .fixed .0) (k .possible .0) j d)
 
   list-is : (l : ℕ) → set (k .list) i l ≡ listsOf (withList (s .year) i l)
   list-is l = ap (λ (z : Carried). set (z .list) i l) inv ∙ lists-after (s .year) i l (omega (arith, narrows .year .sound))

@@ -20,10 +20,11 @@ use Rattle.year.specs.Year.{zeroCourse, courseAt, weight, list, lists, isFixed,
 use Rattle.year.specs.Sums.{openWeight}
 use Rattle.year.specs.Sound.{Sound}
 use Rattle.year.specs.declared.Course.{Course}
+use Rattle.year.specs.declared.Credits.{Credits}
 use Rattle.year.specs.declared.Year.{Year}
 use Rattle.rules.specs.Step.{Step}
 use Rattle.rules.proofs.Narrows.{Narrows}
-use Rattle.lists.specs.Heaviest.{heaviestTo, heaviestWith}
+use Rattle.lists.specs.Heaviest.{heaviestTo, heaviestIn, heaviestWith}
 
 pub larger-first : (b : Bool) (heaviest w : ℕ) → b && ltb heaviest w ≡ true → w ≡ max heaviest (pick b w)
 larger-first true heaviest w e = omega (arith, ltb-true heaviest w e)
@@ -37,11 +38,13 @@ pub heaviest-more : (cs : List Course) (n j : ℕ) → heaviestTo cs (n + 1) j �
 unfolding heaviestTo
 heaviest-more cs n j = rw add-one
 
-pub heaviest-all-more : (cs : List Course) (n : ℕ) → tab 16 (heaviestWith (tab 16 (heaviestTo cs n)) (getD cs n zeroCourse)) ≡ tab 16 (heaviestTo cs (n + 1))
+pub heaviest-all-more : (cs : List Course) (n : ℕ) → tab 16 (heaviestWith (tab 16 (heaviestIn cs n)) (getD cs n zeroCourse)) ≡ tab 16 (heaviestIn cs (n + 1))
 heaviest-all-more cs n =
     let c = getD cs n zeroCourse in
-    tab-cong 16 (heaviestWith (tab 16 (heaviestTo cs n)) c) (heaviestTo cs (n + 1))
-    (λ k h. ap (λ x. max x (pick (isOpen c k) (c .weight .0))) (getD-tab 16 (heaviestTo cs n) 0 k h) ∙ sym (heaviest-more cs n k))
+    tab-cong 16 (heaviestWith (tab 16 (heaviestIn cs n)) c) (heaviestIn cs (n + 1))
+    (λ k h.
+    let e = ap (λ (x : Credits). max (x .0) (pick (isOpen c k) (c .weight .0))) (getD-tab 16 (heaviestIn cs n) (record { 0 = 0 }) k h) ∙ sym (heaviest-more cs n k) in
+    λ i. record { 0 = e i })
 
 -- ---- what it bounds
 

@@ -16,6 +16,7 @@ use Rattle.year.specs.Year.{zeroTerm, termAt, weight, lowCredits}
 use Rattle.year.specs.Sums.{openWeight, fixedCredits, fixedCount, openCount}
 use Rattle.year.specs.SumsOf.{sumsAt, noSums}
 use Rattle.year.specs.Sound.{Sound}
+use Rattle.year.specs.declared.Credits.{Credits}
 use Rattle.year.specs.declared.Sums.{Sums}
 use Rattle.year.specs.declared.Year.{Year}
 use Rattle.year.proofs.SumLaws.{sums-read, possible-le, all-credits-le, counts-le}
@@ -146,11 +147,11 @@ alive-3 s z n =
     z
 
 module _ (ws : List ℕ) (s : State) (sound : Sound (yearIn ws s)) (alive : s .rule ≡ 0) (j : ℕ) (h : j < s .terms) (z : State) (inv : z ≡ held (overTo rule3 (stepIn ws s) j))
-    (heaviest : List ℕ) (e : heaviest ≡ tab 16 (heaviestAt (yearIn ws s))) where
-  heaviest-at : getD heaviest j 0 ≡ heaviestAt (yearIn ws s) j
-  heaviest-at = rw e (getD-tab 16 (heaviestAt (yearIn ws s)) 0 j (omega (arith, sound)))
+    (heaviest : List Credits) (e : heaviest ≡ tab 16 (heaviestAt (yearIn ws s))) where
+  heaviest-at : getD heaviest j (record { 0 = 0 }) .0 ≡ heaviestAt (yearIn ws s) j .0
+  heaviest-at = ap (λ (x : Credits). x .0) (ap (λ h. getD h j (record { 0 = 0 })) e ∙ getD-tab 16 (heaviestAt (yearIn ws s)) (record { 0 = 0 }) j (omega (arith, sound)))
 
-  pub fits-3 : (getD (z .sums) j noSums .fixed .0 + getD heaviest j 0 < 100000) × (lowCredits (yearIn ws s) j + getD heaviest j 0 < 100000)
+  pub fits-3 : (getD (z .sums) j noSums .fixed .0 + getD heaviest j (record { 0 = 0 }) .0 < 100000) × (lowCredits (yearIn ws s) j + getD heaviest j (record { 0 = 0 }) .0 < 100000)
   unfolding sumsAt fixedCredits
   fits-3 =
       let y = yearIn ws z in
@@ -159,17 +160,17 @@ module _ (ws : List ℕ) (s : State) (sound : Sound (yearIn ws s)) (alive : s .r
       let heaviest-small = heaviest-most (yearIn ws s) (s .courses) j sound (le-refl (s .courses)) in
       (omega (arith, heaviest-at, possible-le y j, all-credits-le y a, a .courses-most), omega (arith, heaviest-at, sound .term-sound j h))
 
-  pub turn-3 : (w : TermVerdict) → w ≡ termVerdict3 (termAt (yearIn ws s) j) (getD (z .sums) j noSums) (getD heaviest j 0) → TermTurn rule3 ws s z j w
+  pub turn-3 : (w : TermVerdict) → w ≡ termVerdict3 (termAt (yearIn ws s) j) (getD (z .sums) j noSums) (getD heaviest j (record { 0 = 0 }) .0) → TermTurn rule3 ws s z j w
   turn-3 w q =
       let v = narrows-at rule3 lists-3 ws s sound alive j h z inv in
       let y = year-at rule3 lists-3 ws s sound alive j h z inv in
-      let bound : (i : ℕ) → i < z .courses → openWeight (yearIn ws z) j i ≤ getD heaviest j 0 = λ i m.
+      let bound : (i : ℕ) → i < z .courses → openWeight (yearIn ws z) j i ≤ getD heaviest j (record { 0 = 0 }) .0 = λ i m.
       let n : i < s .courses = omega (arith, v .year .courses-same, ap (λ (x : Year). x .courses) y) in
       omega (arith, ap (λ (x : Year). openWeight x j i) y, heaviest-at, open-less (yearIn ws s) _ v i j n, heaviest-bounds (yearIn ws s) (s .courses) j i n) in
-      let read : w ≡ termVerdict3 (termAt (yearIn ws z) j) (sumsAt (yearIn ws z) j) (getD heaviest j 0) =
-      q ∙ ap₂ (λ t u. termVerdict3 t u (getD heaviest j 0)) (term-at rule3 lists-3 ws s sound alive j h z inv) (sums-at rule3 lists-3 ws s sound alive j h z inv) in
+      let read : w ≡ termVerdict3 (termAt (yearIn ws z) j) (sumsAt (yearIn ws z) j) (getD heaviest j (record { 0 = 0 }) .0) =
+      q ∙ ap₂ (λ t u. termVerdict3 t u (getD heaviest j (record { 0 = 0 }) .0)) (term-at rule3 lists-3 ws s sound alive j h z inv) (sums-at rule3 lists-3 ws s sound alive j h z inv) in
       turn-at rule3 lists-3 ws s sound alive j h z inv (ap (λ (x : State). x .rule) inv ∙ alive-3 (stepIn ws s) alive j) w
-      (rule-3-is (yearIn ws z) j (getD heaviest j 0) bound ∙ ap (λ x. termJudged x (yearIn ws z) j) (sym read))
+      (rule-3-is (yearIn ws z) j (getD heaviest j (record { 0 = 0 }) .0) bound ∙ ap (λ x. termJudged x (yearIn ws z) j) (sym read))
 
 -- ---- rule 10
 

@@ -57,7 +57,12 @@ termJudged (ByCounts full needed) y j = overCourses (courseJudged (ByCounts full
 
 -- a year's lists with p and P of term j
 abbrev pub carried : Year → Bool → ℕ → Carried
-carried y a j = record { list = listsOf y; fixed = fixedCredits y j; possible = possibleCredits y j; altered = a }
+carried y a j = record {
+  list = listsOf y;
+  fixed = record { 0 = fixedCredits y j };
+  possible = record { 0 = possibleCredits y j };
+  altered = a;
+}
 
 abbrev pub carriedOf : Step → ℕ → Carried
 carriedOf s j = carried (s .year) (s .altered) j

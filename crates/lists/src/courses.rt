@@ -24,10 +24,12 @@ pub fn each_course(s: State, weight: &[u32], j: usize, whole: TermVerdict) -> Ca
     let t = s.term[j];
     let u = s.sums[j];
     let list = s.list;
+    let fixed = u.fixed;
+    let possible = u.possible;
     let mut k = Carried {
         list: list,
-        fixed: u.fixed.0,
-        possible: u.possible.0,
+        fixed: fixed,
+        possible: possible,
         altered: false,
     };
     let mut i = 0;
@@ -39,12 +41,12 @@ pub fn each_course(s: State, weight: &[u32], j: usize, whole: TermVerdict) -> Ca
         match v {
             Verdict::Struck => {
                 k.list[i] = c.list - doors::power(j);
-                k.possible = k.possible - credits;
+                k.possible.0 = k.possible.0 - credits;
                 k.altered = true;
             }
             Verdict::Fixed => {
                 k.list[i] = doors::power(j);
-                k.fixed = k.fixed + credits;
+                k.fixed.0 = k.fixed.0 + credits;
                 k.altered = true;
             }
             Verdict::Stays => {}

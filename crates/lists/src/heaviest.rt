@@ -2,6 +2,7 @@
 // year as well.
 use totals::parts;
 use year::Course;
+use year::Credits;
 use year::Year;
 ghost use mathlib.Core.Path.{_≡_};
 ghost use Prim.Native.Nat.{_≤_, _<_, max};
@@ -10,26 +11,25 @@ ghost use Rattle.theory.specs.Sum.{pick};
 ghost use Rattle.theory.specs.Tab.{tab};
 ghost use Rattle.year.specs.Year.{isOpen};
 ghost use Rattle.totals.specs.Parts.{coursesFrom};
-ghost use Rattle.lists.specs.Heaviest.{heaviestWith, heaviestTo};
+ghost use Rattle.lists.specs.Heaviest.{heaviestWith, heaviestIn};
 
 // The weight at hand, or the course's if that is open in term k and heavier.
-fn heavier(heaviest: u32, c: Course, k: usize) -> u32
+fn heavier(heaviest: Credits, c: Course, k: usize) -> Credits
     requires { ⌜ k < 16 ⌝ }
-    ensures { λ r. ⌜ r ≡ max heaviest (pick (isOpen c k) (c .weight .0)) ⌝ }
+    ensures { λ r. ⌜ r .0 ≡ max (heaviest .0) (pick (isOpen c k) (c .weight .0)) ⌝ }
 {
     let open = totals::is_open(c, k);
-    if open & (heaviest < c.weight.0) {
-        c.weight.0
-    } else {
-        heaviest
+    if open & (heaviest.0 < c.weight.0) {
+        return c.weight;
     }
+    heaviest
 }
 
 // All sixteen weights, with one course more.
-fn with_course(heaviest: [u32; 16], c: Course) -> [u32; 16]
+fn with_course(heaviest: [Credits; Year::TERMS], c: Course) -> [Credits; Year::TERMS]
     ensures { λ r. ⌜ r ≡ tab 16 (heaviestWith heaviest c) ⌝ }
 {
-    let mut r = [0u32; 16];
+    let mut r = [Credits(0); Year::TERMS];
     for k in 0..Year::TERMS {
         r[k] = heavier(heaviest[k], c, k);
     }
@@ -37,11 +37,11 @@ fn with_course(heaviest: [u32; 16], c: Course) -> [u32; 16]
 }
 
 // All sixteen, over the first n courses.
-pub fn heaviest(weight: &[u32], list: &[u16], n: usize) -> [u32; 16]
+pub fn heaviest(weight: &[u32], list: &[u16], n: usize) -> [Credits; Year::TERMS]
     requires { ⌜ (n ≤ 64) × (n ≤ length (now weight)) × (n ≤ length (now list)) ⌝ }
-    ensures { λ r. ⌜ r ≡ tab 16 (heaviestTo (coursesFrom (now (weight .entry)) (now (list .entry))) n) ⌝ }
+    ensures { λ r. ⌜ r ≡ tab 16 (heaviestIn (coursesFrom (now (weight .entry)) (now (list .entry))) n) ⌝ }
 {
-    let mut heaviest = [0u32; 16];
+    let mut heaviest = [Credits(0); Year::TERMS];
     for i in 0..n {
         let next = with_course(heaviest, parts::course(weight, list, i));
         heaviest = next;

@@ -5,6 +5,8 @@ mod terms;
 mod verdicts;
 
 use frame::State;
+use year::Credits;
+use year::Year;
 ghost use mathlib.Core.Path.{_≡_};
 ghost use lib.ListN.{length};
 ghost use Rattle.year.specs.Sound.{Sound};
@@ -14,9 +16,9 @@ ghost use Rattle.rules.specs.Lists.{rule3, rule10};
 
 // What the loop over the courses of a term carries: the lists, the credits fixed in that term (p) and those possible there (P).
 pub struct Carried {
-    pub list: [u16; 64],
-    pub fixed: u32,
-    pub possible: u32,
+    pub list: [u16; Year::COURSES],
+    pub fixed: Credits,
+    pub possible: Credits,
     pub altered: bool,
 }
 

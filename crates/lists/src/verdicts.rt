@@ -2,6 +2,7 @@
 use crate::TermVerdict;
 use rules::Verdict;
 use year::Course;
+use year::Credits;
 use year::Sums;
 use year::Term;
 use year::tighter;
@@ -11,11 +12,11 @@ ghost use Rattle.rules.specs.Lists.{verdict3, verdict10};
 ghost use Rattle.lists.specs.TermVerdict.{termVerdict3, termVerdict10, courseVerdict};
 
 // Rule 3: no open course of the term weighs more than `heaviest`, so it says nothing with room for that and enough without it.
-pub fn term_verdict_3(t: Term, u: Sums, heaviest: u32) -> TermVerdict
-    requires { ⌜ (u .fixed .0 + heaviest < 100000) × (t .low .0 + heaviest < 100000) ⌝ }
-    ensures { λ r. ⌜ r ≡ termVerdict3 t u heaviest ⌝ }
+pub fn term_verdict_3(t: Term, u: Sums, heaviest: Credits) -> TermVerdict
+    requires { ⌜ (u .fixed .0 + heaviest .0 < 100000) × (t .low .0 + heaviest .0 < 100000) ⌝ }
+    ensures { λ r. ⌜ r ≡ termVerdict3 t u (heaviest .0) ⌝ }
 {
-    if (u.fixed.0 + heaviest <= t.high.0) & (t.low.0 + heaviest <= u.possible.0) {
+    if (u.fixed.0 + heaviest.0 <= t.high.0) & (t.low.0 + heaviest.0 <= u.possible.0) {
         return TermVerdict::Nothing;
     }
     TermVerdict::ByCredits
@@ -39,19 +40,18 @@ pub fn term_verdict_10(t: Term, u: Sums) -> TermVerdict
 }
 
 // Rule 3 with p credits fixed in term j and those possible there.
-fn verdict_3(c: Course, t: Term, p: u32, possible: u32, j: usize) -> Verdict
+fn verdict_3(c: Course, t: Term, p: Credits, possible: Credits, j: usize) -> Verdict
     requires { ⌜ j < 16 ⌝ }
-    requires { ⌜ p + c .weight .0 < 100000 ⌝ }
-    ensures { λ r. ⌜ r ≡ verdict3 c t p possible j ⌝ }
+    requires { ⌜ p .0 + c .weight .0 < 100000 ⌝ }
+    ensures { λ r. ⌜ r ≡ verdict3 c t (p .0) (possible .0) j ⌝ }
 {
-    let w = c.weight.0;
     if !totals::is_open(c, j) {
         return Verdict::Stays;
     }
-    if t.high.0 < p + w {
+    if t.high.0 < p.0 + c.weight.0 {
         return Verdict::Struck;
     }
-    if tighter::less(possible, w) < t.low.0 {
+    if tighter::less(possible.0, c.weight.0) < t.low.0 {
         return Verdict::Fixed;
     }
     Verdict::Stays
@@ -79,13 +79,13 @@ pub fn course_verdict(
     whole: TermVerdict,
     c: Course,
     t: Term,
-    p: u32,
-    possible: u32,
+    p: Credits,
+    possible: Credits,
     j: usize,
 ) -> Verdict
     requires { ⌜ j < 16 ⌝ }
-    requires { ⌜ p + c .weight .0 < 100000 ⌝ }
-    ensures { λ r. ⌜ r ≡ courseVerdict whole c t p possible j ⌝ }
+    requires { ⌜ p .0 + c .weight .0 < 100000 ⌝ }
+    ensures { λ r. ⌜ r ≡ courseVerdict whole c t (p .0) (possible .0) j ⌝ }
 {
     match whole {
         TermVerdict::ByCredits => verdict_3(c, t, p, possible, j),

@@ -3,6 +3,7 @@ mod bins;
 mod sizes;
 
 use frame::State;
+use year::Credits;
 ghost use mathlib.Core.Path.{_≡_};
 ghost use lib.ListN.{length};
 ghost use Rattle.year.specs.Sound.{Sound};
@@ -26,13 +27,13 @@ fn unpackable(s: State, weight: &[u32]) -> bool
         return true;
     }
     let c = bins::room(term, m);
-    if c == 0 {
+    if c.0 == 0 {
         return false;
     }
     let list = s.list;
     let course = sizes::course_sizes(weight, &list, n);
     let own = sizes::term_sizes(term, m, sums, c);
-    let limit = m as u32 * c;
+    let limit = Credits(m as u32 * c.0);
     sizes::overfull(&course[..n], &own[..m], c, limit)
 }
 

@@ -1,9 +1,11 @@
 // Sizes: the weight of each course with several terms, and for each term what of the room c is not free there.
-// What they count for at t, and the most that they count for at any t.
+// What they count for at t, and the most that they count for at any t. Arrays of sizes are numbers, since they are lent.
 use totals::parts;
 use year::Course;
+use year::Credits;
 use year::Sums;
 use year::Term;
+use year::Year;
 use year::tighter;
 ghost use mathlib.Core.Path.{_≡_};
 ghost use Prim.Native.Nat.{_+_, _-_, _/_, _≤_};
@@ -14,94 +16,104 @@ ghost use Rattle.theory.specs.Tests.{any};
 ghost use Rattle.packing.specs.Sizes.{sizeOf, sizeIn, usedIn, firstOf, capped, shareSum, capSum, over};
 
 // The weight of a course with several terms.
-fn course_size(c: Course) -> u32
-    ensures { λ r. ⌜ r ≡ sizeOf c ⌝ }
+fn course_size(c: Course) -> Credits
+    ensures { λ r. ⌜ r .0 ≡ sizeOf c ⌝ }
 {
     if totals::is_placed(c) {
-        return 0;
+        return Credits(0);
     }
-    c.weight.0
+    c.weight
 }
 
 // The sizes of the first n courses; 0 past them.
-pub fn course_sizes(weight: &[u32], list: &[u16], n: usize) -> [u32; 64]
+pub fn course_sizes(weight: &[u32], list: &[u16], n: usize) -> [u32; Year::COURSES]
     requires { ⌜ (n ≤ 64) × (n ≤ length (now weight)) × (n ≤ length (now list)) ⌝ }
     ensures { λ r. ⌜ r ≡ tab 64 (firstOf n (sizeIn (now (weight .entry)) (now (list .entry)))) ⌝ }
 {
-    let mut r = [0u32; 64];
+    let mut r = [0u32; Year::COURSES];
     for i in 0..n {
-        r[i] = course_size(parts::course(weight, list, i));
+        let size = course_size(parts::course(weight, list, i));
+        r[i] = size.0;
     }
     r
 }
 
 // The sizes of the first m terms with room c; 0 past them.
-pub fn term_sizes(term: [Term; 16], m: usize, s: [Sums; 16], c: u32) -> [u32; 16]
+pub fn term_sizes(
+    term: [Term; Year::TERMS],
+    m: usize,
+    s: [Sums; Year::TERMS],
+    c: Credits,
+) -> [u32; Year::TERMS]
     requires { ⌜ (m ≤ 16) × (length term ≡ 16) × (length s ≡ 16) ⌝ }
-    ensures { λ r. ⌜ r ≡ tab 16 (firstOf m (usedIn term s c)) ⌝ }
+    ensures { λ r. ⌜ r ≡ tab 16 (firstOf m (usedIn term s (c .0))) ⌝ }
 {
-    let mut r = [0u32; 16];
+    let mut r = [0u32; Year::TERMS];
     for k in 0..m {
-        r[k] = tighter::less(c, tighter::less(term[k].high.0, s[k].fixed.0));
+        r[k] = tighter::less(c.0, tighter::less(term[k].high.0, s[k].fixed.0));
     }
     r
 }
 
 // What a size counts for at t: all of c above c - t, nothing below t, itself between.
-fn share(c: u32, t: u32, x: u32) -> u32
-    requires { ⌜ t ≤ c ⌝ }
-    ensures { λ r. ⌜ (r ≡ share c t x) × (r ≤ c) ⌝ }
+fn share(c: Credits, t: Credits, x: Credits) -> Credits
+    requires { ⌜ t .0 ≤ c .0 ⌝ }
+    ensures { λ r. ⌜ (r .0 ≡ share (c .0) (t .0) (x .0)) × (r .0 ≤ c .0) ⌝ }
 {
-    if c - t < x {
+    if c.0 - t.0 < x.0 {
         return c;
     }
-    if x < t {
-        return 0;
+    if x.0 < t.0 {
+        return Credits(0);
     }
     x
 }
 
 // The most that a size counts for at any t up to half of c.
-fn capped(c: u32, x: u32) -> u32
-    ensures { λ r. ⌜ (r ≡ capped c x) × (r ≤ c) ⌝ }
+fn capped(c: Credits, x: Credits) -> Credits
+    ensures { λ r. ⌜ (r .0 ≡ capped (c .0) (x .0)) × (r .0 ≤ c .0) ⌝ }
 {
-    if c / 2 < x {
+    if c.0 / 2 < x.0 {
         return c;
     }
     x
 }
 
 // What all sizes count for at t.
-fn share_sum(x: &[u32], c: u32, t: u32) -> u32
-    requires { ⌜ (length (now x) ≤ 64) × (c ≤ 64000) × (t ≤ c) ⌝ }
-    ensures { λ r. ⌜ (r ≡ shareSum (now (x .entry)) c t) × (r ≤ 4096000) ⌝ }
+fn share_sum(x: &[u32], c: Credits, t: Credits) -> Credits
+    requires { ⌜ (length (now x) ≤ 64) × (c .0 ≤ 64000) × (t .0 ≤ c .0) ⌝ }
+    ensures { λ r. ⌜ (r .0 ≡ shareSum (now (x .entry)) (c .0) (t .0)) × (r .0 ≤ 4096000) ⌝ }
 {
-    let mut sum: u32 = 0;
+    let mut sum = Credits(0);
     for i in 0..x.len() {
-        sum += share(c, t, x[i]);
+        let size = share(c, t, Credits(x[i]));
+        sum.0 += size.0;
     }
     sum
 }
 
 // The most that all sizes count for at any t up to half of c.
-fn cap_sum(x: &[u32], c: u32) -> u32
-    requires { ⌜ (length (now x) ≤ 64) × (c ≤ 64000) ⌝ }
-    ensures { λ r. ⌜ (r ≡ capSum (now (x .entry)) c) × (r ≤ 4096000) ⌝ }
+fn cap_sum(x: &[u32], c: Credits) -> Credits
+    requires { ⌜ (length (now x) ≤ 64) × (c .0 ≤ 64000) ⌝ }
+    ensures { λ r. ⌜ (r .0 ≡ capSum (now (x .entry)) (c .0)) × (r .0 ≤ 4096000) ⌝ }
 {
-    let mut sum: u32 = 0;
+    let mut sum = Credits(0);
     for i in 0..x.len() {
-        sum += capped(c, x[i]);
+        let size = capped(c, Credits(x[i]));
+        sum.0 += size.0;
     }
     sum
 }
 
 // At some t from 0 to half of c the sizes count for more than the limit.
-fn exceeds(a: &[u32], b: &[u32], c: u32, limit: u32) -> bool
-    requires { ⌜ (length (now a) ≤ 64) × (length (now b) ≤ 64) × (c ≤ 64000) ⌝ }
-    ensures { λ r. ⌜ r ≡ any (c / 2 + 1) (over (now (a .entry)) (now (b .entry)) c limit) ⌝ }
+fn exceeds(a: &[u32], b: &[u32], c: Credits, limit: Credits) -> bool
+    requires { ⌜ (length (now a) ≤ 64) × (length (now b) ≤ 64) × (c .0 ≤ 64000) ⌝ }
+    ensures { λ r. ⌜ r ≡ any (c .0 / 2 + 1) (over (now (a .entry)) (now (b .entry)) (c .0) (limit .0)) ⌝ }
 {
-    for t in 0..c / 2 + 1 {
-        if limit < share_sum(a, c, t) + share_sum(b, c, t) {
+    for t in 0..c.0 / 2 + 1 {
+        let x = share_sum(a, c, Credits(t));
+        let y = share_sum(b, c, Credits(t));
+        if limit.0 < x.0 + y.0 {
             return true;
         }
     }
@@ -109,11 +121,13 @@ fn exceeds(a: &[u32], b: &[u32], c: u32, limit: u32) -> bool
 }
 
 // The same, where one bound for all t often spares the loop over t.
-pub fn overfull(a: &[u32], b: &[u32], c: u32, limit: u32) -> bool
-    requires { ⌜ (length (now a) ≤ 64) × (length (now b) ≤ 64) × (c ≤ 64000) ⌝ }
-    ensures { λ r. ⌜ r ≡ any (c / 2 + 1) (over (now (a .entry)) (now (b .entry)) c limit) ⌝ }
+pub fn overfull(a: &[u32], b: &[u32], c: Credits, limit: Credits) -> bool
+    requires { ⌜ (length (now a) ≤ 64) × (length (now b) ≤ 64) × (c .0 ≤ 64000) ⌝ }
+    ensures { λ r. ⌜ r ≡ any (c .0 / 2 + 1) (over (now (a .entry)) (now (b .entry)) (c .0) (limit .0)) ⌝ }
 {
-    if cap_sum(a, c) + cap_sum(b, c) <= limit {
+    let x = cap_sum(a, c);
+    let y = cap_sum(b, c);
+    if x.0 + y.0 <= limit.0 {
         return false;
     }
     exceeds(a, b, c, limit)

@@ -17,6 +17,7 @@ use Rattle.year.specs.Year.{termAt, weight, highCredits, lowCount, highCount, w
 use Rattle.year.specs.Sums.{fixedCredits, fixedCount, openCount}
 use Rattle.year.specs.Tight.{creditsWithin, countsWithin}
 use Rattle.year.specs.Sound.{Sound}
+use Rattle.year.specs.declared.Credits.{Credits}
 use Rattle.year.specs.declared.Term.{Term}
 use Rattle.year.specs.declared.Tight.{Tight}
 use Rattle.year.specs.declared.Year.{Year}
@@ -202,7 +203,7 @@ walk-same z j t s l e k u =
 
 -- the high count is at most what some walk up, whatever its high credits, counts
 abbrev Within : Year → ℕ → Type 0
-Within z k = (h : ℕ) × (highCount z k ≤ walkOf z k (until.Past h) (up z) .count)
+Within z k = (h : Credits) × (highCount z k ≤ walkOf z k (until.Past h) (up z) .count)
 
 -- rules 7 and 8 leave the low counts
 outcome-least : (r : ℕ) (fails : Bool) (t : Term) (w : Tight) → w .term .least .0 ≡ t .least .0 → outcome r fails t w .term .least .0 ≡ t .least .0
@@ -214,11 +215,11 @@ KeepsLow f = (z : Year) (j : ℕ) → f z j .term .least .0 ≡ lowCount z j
 
 low-7 : KeepsLow rule7
 unfolding rule7 countsWithin
-low-7 z j = outcome-least 7 false (termAt z j) (countsWithin (termAt z j) (lowCount z j) (walkOf z j (until.Past (highCredits z j)) (up z) .count)) (omega arith)
+low-7 z j = outcome-least 7 false (termAt z j) (countsWithin (termAt z j) (lowCount z j) (walkOf z j (until.Past (termAt z j .high)) (up z) .count)) (omega arith)
 
 low-8 : KeepsLow rule8
 unfolding rule8 creditsWithin
-low-8 z j = outcome-least 8 _ (termAt z j) (creditsWithin (termAt z j) (walkOf z j (until.Count (lowCount z j)) (up z) .credits) (highCredits z j)) refl
+low-8 z j = outcome-least 8 _ (termAt z j) (creditsWithin (termAt z j) (walkOf z j (until.Count (termAt z j .least)) (up z) .credits) (highCredits z j)) refl
 
 within-stays : (f : Year → ℕ → Outcome) → KeepsLow f → AtTerms Narrows (bounded f) → (z : Year) (j k : ℕ) → Sound z → j < z .terms → Within z k → Within (bounded f z j .year) k
 within-stays f low law z j k s l r = (
@@ -230,12 +231,12 @@ within-stays f low law z j k s l r = (
 within-made : (z : Year) (j : ℕ) → Sound z → j < z .terms → bounded rule7 z j .rule ≡ 0 → Within (bounded rule7 z j .year) j
 unfolding rule7 countsWithin
 within-made z j s l =
-    let u = until.Past (highCredits z j) in
+    let u = until.Past (termAt z j .high) in
     let v = walkOf z j u (up z) in
     let w = countsWithin (termAt z j) (lowCount z j) (v .count) in
     let least : highCount (withTerm z j (w .term)) j ≤ v .count = omega (arith, put-most z j (w .term) s l) in
     outcome-makes (λ x. Within x j) z j 7 false w (λ e. omega arith)
-    (highCredits z j, le-trans least (le-of-eq (ap (λ (x : Reached). x .count) (sym (walk-same z j (w .term) s l (omega arith) j u)))))
+    (termAt z j .high, le-trans least (le-of-eq (ap (λ (x : Reached). x .count) (sym (walk-same z j (w .term) s l (omega arith) j u)))))
 
 module _ (y : Year) (sound : Sound y) (alive : afterRule y 7 .rule ≡ 0) (j : ℕ) (h : j < y .terms) where
   -- the year that rule 8 sees at term j
@@ -249,7 +250,7 @@ module _ (y : Year) (sound : Sound y) (alive : afterRule y 7 .rule ≡ 0) (j : �
       known-over y Within rule8 narrows-8 (within-stays rule8 low-8 narrows-8) (afterRule y 7) j (omega arith)
       (b .0, λ k l. b .1 alive k (omega (arith, n .terms-same)))
 
-  rule8-reaches : lowCount seen j ≤ walkOf seen j (until.Count (lowCount seen j)) (up seen) .count
+  rule8-reaches : lowCount seen j ≤ walkOf seen j (until.Count (termAt seen j .least)) (up seen) .count
   unfolding walkOf
   rule8-reaches =
       let r = within .1 j h in

@@ -1,7 +1,7 @@
 -- "Rule 4 before rule 6 keeps each spare at 0 or more": in a round no spare is cut off at 0; and rule 8 always reaches the low count.
 use Prim.Native.Nat.{ℕ, _+_, _≤_, _<_}
 use mathlib.Core.Path.{_≡_}
-use Rattle.year.specs.Year.{lowCount}
+use Rattle.year.specs.Year.{termAt, lowCount}
 use Rattle.year.specs.Sums.{fixedCount, openCount}
 use Rattle.year.specs.Sound.{Sound}
 use Rattle.year.specs.declared.Year.{Year}
@@ -35,4 +35,4 @@ pub record SpareRoom : Type 0 where
   pub spared-9 : SparedAt rule9 8
   pub rule8-reaches : (y : Year) → Sound y → afterRule y 7 .rule ≡ 0 → (j : ℕ) → j < y .terms
       → let z = seenAt rule8 (afterRule y 7) j in
-      lowCount z j ≤ walkOf z j (until.Count (lowCount z j)) (up z) .count
+      lowCount z j ≤ walkOf z j (until.Count (termAt z j .least)) (up z) .count

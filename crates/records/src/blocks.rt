@@ -12,7 +12,7 @@ ghost use Rattle.year.specs.Sound.{Sound};
 ghost use Rattle.records.specs.Writing.{termBytes, courseBytes, termBlock, courseBlock, joined};
 ghost use Rattle.records.specs.Laid.{laid};
 
-fn term_bytes(number: usize, t: Term) -> [u8; 16]
+fn term_bytes(number: usize, t: Term) -> [u8; RECORD]
     requires { ⌜ number < 256 ⌝ }
     requires { ⌜ (t .low .0 < 65536) × (t .high .0 < 65536) × (t .least .0 < 65536) × (t .most .0 < 65536) ⌝ }
     ensures { λ r. ⌜ r ≡ termBytes number t ⌝ }
@@ -37,7 +37,7 @@ fn term_bytes(number: usize, t: Term) -> [u8; 16]
     ]
 }
 
-fn course_bytes(number: usize, c: Course) -> [u8; 16]
+fn course_bytes(number: usize, c: Course) -> [u8; RECORD]
     requires { ⌜ number < 256 ⌝ }
     requires { ⌜ c .weight .0 < 65536 ⌝ }
     ensures { λ r. ⌜ r ≡ courseBytes number c ⌝ }
@@ -63,7 +63,7 @@ fn course_bytes(number: usize, c: Course) -> [u8; 16]
 }
 
 // Sixteen bytes laid into the buffer from a place on.
-fn put(buf: &mut [u8], at: usize, r: [u8; 16])
+fn put(buf: &mut [u8], at: usize, r: [u8; RECORD])
     requires { ⌜ at + 16 ≤ length (now buf) ⌝ }
     ensures { λ _. ⌜ now (buf .exit) ≡ laid (now (buf .entry)) at r ⌝ }
 {

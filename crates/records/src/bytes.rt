@@ -1,4 +1,5 @@
 // Bytes and two-byte numbers of a record that starts at a place of a byte string.
+use crate::RECORD;
 ghost use mathlib.Core.Path.{_≡_};
 ghost use Prim.Native.Nat.{_+_, _≤_, _<_};
 ghost use lib.ListN.{length};
@@ -26,7 +27,7 @@ pub fn blank_from(s: &[u8], at: usize, k: usize) -> bool
     ensures { λ r. ⌜ r ≡ blankFrom (now (s .entry)) at k ⌝ }
 {
     let mut blank = true;
-    for i in 0..16 - k {
+    for i in 0..RECORD - k {
         blank = blank & (s[at + (k + i)] == 0);
     }
     blank

@@ -54,7 +54,7 @@ pub enum Writing {
 // The bytes of a record, and of the longest list: that of the largest year.
 pub const RECORD: usize = 16;
 
-pub const LONGEST: usize = 1280;
+pub const LONGEST: usize = (Year::TERMS + Year::COURSES) * RECORD;
 
 // The letters that records start with, "T" and "C".
 pub const TERM_LETTER: u8 = 84;

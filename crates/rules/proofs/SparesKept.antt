@@ -17,7 +17,7 @@ use Rattle.theory.proofs.Spare.{sumL, Spares, against-plan}
 use Rattle.theory.proofs.Open.{other, other-apart, spareOf}
 use Rattle.theory.proofs.Start.{Begins, begun, falling, rising}
 use Rattle.theory.proofs.OrderLaws.{heavier-sum, heavier-down, lighter-sum, lighter-up}
-use Rattle.year.specs.Year.{courseAt, weight, lowCredits, highCredits, lowCount, highCount}
+use Rattle.year.specs.Year.{termAt, courseAt, weight, lowCredits, highCredits, lowCount, highCount}
 use Rattle.year.specs.Sums.{fixedCredits, fixedCount, openCount}
 use Rattle.year.specs.Plans.{Placing, creditsIn, countIn, Plan}
 use Rattle.year.specs.Sound.{Sound}
@@ -109,7 +109,7 @@ module _ (y : Year) (j : ℕ) (s : Sound y) (l : j < y .terms) where
   pub rule6-kept : PlansKept y (put y j (rule6 y j))
   unfolding rule6 walkOf
   rule6-kept =
-      let w = walkOf y j (until.Credits (lowCredits y j)) (down y) in
+      let w = walkOf y j (until.Credits (termAt y j .low)) (down y) in
       counts-kept y j (w .count) (highCount y j) 6 (ltb (w .credits) (lowCredits y j)) s l (λ e. omega arith)
       (λ p h.
       let r = rule-6 _ _ _ _ _ (lowCredits y j) _ _ _ _ (h .credits-low j l) (fixed-le y j s p h) (falls y j s p h) in
@@ -118,14 +118,14 @@ module _ (y : Year) (j : ℕ) (s : Sound y) (l : j < y .terms) where
   pub rule7-kept : PlansKept y (put y j (rule7 y j))
   unfolding rule7 walkOf
   rule7-kept =
-      let w = walkOf y j (until.Past (highCredits y j)) (up y) in
+      let w = walkOf y j (until.Past (termAt y j .high)) (up y) in
       counts-kept y j (lowCount y j) (w .count) 7 false s l (λ e. omega arith)
       (λ p h. (refl, h .count-low j l, rule-7 _ _ _ _ _ (highCredits y j) _ _ _ _ (h .credits-high j l) (rises y j s p h)))
 
   pub rule8-kept : PlansKept y (put y j (rule8 y j))
   unfolding rule8 walkOf
   rule8-kept =
-      let w = walkOf y j (until.Count (lowCount y j)) (up y) in
+      let w = walkOf y j (until.Count (termAt y j .least)) (up y) in
       credits-kept y j (w .credits) (highCredits y j) 8 (ltb (w .count) (lowCount y j)) s l (λ e. omega arith)
       (λ p h.
       let r = rule-8 _ _ _ _ _ (lowCount y j) _ _ _ _ (h .count-low j l) (fixed-le y j s p h) (rises y j s p h) in
@@ -134,6 +134,6 @@ module _ (y : Year) (j : ℕ) (s : Sound y) (l : j < y .terms) where
   pub rule9-kept : PlansKept y (put y j (rule9 y j))
   unfolding rule9 walkOf
   rule9-kept =
-      let w = walkOf y j (until.Count (highCount y j)) (down y) in
+      let w = walkOf y j (until.Count (termAt y j .most)) (down y) in
       credits-kept y j (lowCredits y j) (w .credits) 9 false s l (λ e. omega arith)
       (λ p h. (refl, h .credits-low j l, rule-9 _ _ _ _ _ (highCount y j) _ _ _ _ (h .count-high j l) (falls y j s p h)))

@@ -53,9 +53,9 @@ table y j = record { blocked = λ s i. blocked j s (courseAt y i); charge = λ s
 
 -- asked before each course, of the credits c and the count n so far and the course's weight x
 abbrev pub stops : Until → ℕ → ℕ → ℕ → Bool
-stops (until.Credits a) c n x = leb a c
-stops (until.Count a) c n x = leb a n
-stops (until.Past a) c n x = ltb a (c + x)
+stops (until.Credits a) c n x = leb (a .0) c
+stops (until.Count a) c n x = leb (a .0) n
+stops (until.Past a) c n x = ltb (a .0) (c + x)
 
 -- the open courses of j in the order o
 abbrev pub openAt : Year → ℕ → ℕ → Bool
@@ -80,23 +80,23 @@ up y = order (lighter (weight y)) (y .courses)
 -- least count: stop when credits reach low credits; raise low count to fixed plus counted. Not reaching low credits is no plan
 unfoldable pub rule6 : Year → ℕ → Outcome
 rule6 y j =
-    let w = walkOf y j (until.Credits (lowCredits y j)) (down y) in
+    let w = walkOf y j (until.Credits (termAt y j .low)) (down y) in
     outcome 6 (ltb (w .credits) (lowCredits y j)) (termAt y j) (countsWithin (termAt y j) (w .count) (highCount y j))
 
 -- most count: stop when the next course, skipped or not, would pass high credits; lower high count to fixed plus counted
 unfoldable pub rule7 : Year → ℕ → Outcome
 rule7 y j =
-    let w = walkOf y j (until.Past (highCredits y j)) (up y) in
+    let w = walkOf y j (until.Past (termAt y j .high)) (up y) in
     outcome 7 false (termAt y j) (countsWithin (termAt y j) (lowCount y j) (w .count))
 
 -- least load: until the count reaches low count; raise low credits to the credits so reached. Not reaching it is no plan
 unfoldable pub rule8 : Year → ℕ → Outcome
 rule8 y j =
-    let w = walkOf y j (until.Count (lowCount y j)) (up y) in
+    let w = walkOf y j (until.Count (termAt y j .least)) (up y) in
     outcome 8 (ltb (w .count) (lowCount y j)) (termAt y j) (creditsWithin (termAt y j) (w .credits) (highCredits y j))
 
 -- most load: until the count reaches high count or courses end; lower high credits to the credits so reached
 unfoldable pub rule9 : Year → ℕ → Outcome
 rule9 y j =
-    let w = walkOf y j (until.Count (highCount y j)) (down y) in
+    let w = walkOf y j (until.Count (termAt y j .most)) (down y) in
     outcome 9 false (termAt y j) (creditsWithin (termAt y j) (lowCredits y j) (w .credits))

@@ -1,4 +1,6 @@
 // What the eleven rules decide, as definitions and code share it.
+use year::Courses;
+use year::Credits;
 use year::Term;
 
 // A term after a rule was run on its bounds.
@@ -17,7 +19,7 @@ pub enum Verdict {
 
 // When a walk ends: the credits reach a number, the count does, or the next course would take the credits past it.
 pub enum Until {
-    Credits(u32),
-    Count(u32),
-    Past(u32),
+    Credits(Credits),
+    Count(Courses),
+    Past(Credits),
 }

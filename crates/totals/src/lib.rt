@@ -94,13 +94,13 @@ fn sums_in(weight: &[u32], list: &[u16], n: usize, j: usize) -> Sums
 }
 
 // The sums of sixteen entries over the first n courses, which list none but the first m terms: those of the others are 0.
-pub fn sums_over(weight: &[u32], list: &[u16], m: usize, n: usize) -> [Sums; 16]
+pub fn sums_over(weight: &[u32], list: &[u16], m: usize, n: usize) -> [Sums; Year::TERMS]
     requires { ⌜ (n ≤ 64) × (n ≤ length (now weight)) × (n ≤ length (now list)) × (m ≤ 16) ⌝ }
     requires { ⌜ ((i : ℕ) → i < n → (getD (now weight) i 0 ≤ 1000) × (getD (now list) i 0 < 2 ^ m)) ⌝ }
     ensures { λ r. ⌜ r ≡ tab 16 (λ j. sumsTo (coursesOnly (now (weight .entry)) (now (list .entry))) j n) ⌝ }
 {
     let z = nothing();
-    let mut s = [z; 16];
+    let mut s = [z; Year::TERMS];
     for j in 0..m {
         s[j] = sums_in(weight, list, n, j);
     }
@@ -108,7 +108,7 @@ pub fn sums_over(weight: &[u32], list: &[u16], m: usize, n: usize) -> [Sums; 16]
 }
 
 // The sums of all sixteen entries; those past the last term are 0.
-pub fn sums_of(y: Year) -> [Sums; 16]
+pub fn sums_of(y: Year) -> [Sums; Year::TERMS]
     requires { ⌜ Sound y ⌝ }
     ensures { λ r. ⌜ r ≡ tab 16 (sumsAt y) ⌝ }
 {
@@ -146,9 +146,9 @@ pub fn all_credits(y: Year) -> Credits
     requires { ⌜ Sound y ⌝ }
     ensures { λ r. ⌜ r .0 ≡ allCredits y ⌝ }
 {
-    let mut total: u32 = 0;
+    let mut total = Credits(0);
     for i in 0..y.courses {
-        total += y.course[i].weight.0;
+        total.0 += y.course[i].weight.0;
     }
-    Credits(total)
+    total
 }

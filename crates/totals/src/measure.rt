@@ -1,4 +1,5 @@
 // The imbalance of a settled year.
+use year::Credits;
 use year::Measured;
 use year::Sums;
 use year::Term;
@@ -24,7 +25,7 @@ fn fits(t: Term, s: Sums) -> bool
 }
 
 // What is fixed in each term is within its bounds.
-fn all_fit(y: Year, s: [Sums; 16]) -> bool
+fn all_fit(y: Year, s: [Sums; Year::TERMS]) -> bool
     requires { ⌜ Sound y ⌝ }
     requires { ⌜ s ≡ tab 16 (sumsAt y) ⌝ }
     ensures { λ r. ⌜ r ≡ all (y .terms) (fitsAt y) ⌝ }
@@ -37,29 +38,29 @@ fn all_fit(y: Year, s: [Sums; 16]) -> bool
 }
 
 // The credits of the heaviest term.
-fn heaviest(y: Year, s: [Sums; 16]) -> u32
+fn heaviest(y: Year, s: [Sums; Year::TERMS]) -> Credits
     requires { ⌜ Sound y ⌝ }
     requires { ⌜ s ≡ tab 16 (sumsAt y) ⌝ }
-    ensures { λ r. ⌜ r ≡ largest (y .terms) (fixedCredits y) ⌝ }
+    ensures { λ r. ⌜ r .0 ≡ largest (y .terms) (fixedCredits y) ⌝ }
 {
-    let mut most = s[0].fixed.0;
+    let mut most = Credits(s[0].fixed.0);
     for k in 0..y.terms {
         let x = s[k].fixed.0;
-        most = if most < x { x } else { most };
+        most.0 = if most.0 < x { x } else { most.0 };
     }
     most
 }
 
 // The credits of the lightest term.
-fn lightest(y: Year, s: [Sums; 16]) -> u32
+fn lightest(y: Year, s: [Sums; Year::TERMS]) -> Credits
     requires { ⌜ Sound y ⌝ }
     requires { ⌜ s ≡ tab 16 (sumsAt y) ⌝ }
-    ensures { λ r. ⌜ r ≡ smallest (y .terms) (fixedCredits y) ⌝ }
+    ensures { λ r. ⌜ r .0 ≡ smallest (y .terms) (fixedCredits y) ⌝ }
 {
-    let mut least = s[0].fixed.0;
+    let mut least = Credits(s[0].fixed.0);
     for k in 0..y.terms {
         let x = s[k].fixed.0;
-        least = if x < least { x } else { least };
+        least.0 = if x < least.0 { x } else { least.0 };
     }
     least
 }
@@ -75,5 +76,7 @@ pub fn imbalance(y: Year) -> Measured
     if !(crate::all_placed(y) & all_fit(y, s)) {
         return Measured::Unsettled;
     }
-    Measured::Imbalance((heaviest(y, s) - lightest(y, s)) as u64)
+    let most = heaviest(y, s);
+    let least = lightest(y, s);
+    Measured::Imbalance((most.0 - least.0) as u64)
 }

@@ -15,8 +15,8 @@ pub fn apart(y: Year) -> Columns
     requires { ⌜ Sound y ⌝ }
     ensures { λ r. ⌜ r ≡ columnsOf y ⌝ }
 {
-    let mut w = [0u32; 64];
-    let mut l = [0u16; 64];
+    let mut w = [0u32; Year::COURSES];
+    let mut l = [0u16; Year::COURSES];
     for i in 0..Year::COURSES {
         w[i] = y.course[i].weight.0;
         l[i] = y.course[i].list;
@@ -35,7 +35,7 @@ pub fn course(weight: &[u32], list: &[u16], i: usize) -> Course
 }
 
 // The courses of both arrays together, of which there are n: all entries past them are 0.
-pub fn together(weight: &[u32], list: &[u16], n: usize) -> [Course; 64]
+pub fn together(weight: &[u32], list: &[u16], n: usize) -> [Course; Year::COURSES]
     requires { ⌜ (n ≤ 64) × (n ≤ length (now weight)) × (n ≤ length (now list)) ⌝ }
     requires { ⌜ ((i : ℕ) → n ≤ i → i < 64 → courseFrom (now weight) (now list) i ≡ zeroCourse) ⌝ }
     ensures { λ r. ⌜ r ≡ coursesFrom (now (weight .entry)) (now (list .entry)) ⌝ }
@@ -44,7 +44,7 @@ pub fn together(weight: &[u32], list: &[u16], n: usize) -> [Course; 64]
         weight: Credits(0),
         list: 0,
     };
-    let mut c = [z; 64];
+    let mut c = [z; Year::COURSES];
     for i in 0..n {
         c[i] = course(weight, list, i);
     }

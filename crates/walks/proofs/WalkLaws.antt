@@ -49,7 +49,7 @@ module _ {S : Type 0} (T : Table S) (w : ℕ → ℕ) (stop : ℕ → ℕ → �
 
 -- the step by what its three tests say: open, stopped, blocked; s and x are the spares and the credits after the course is taken
 abbrev byTests : Walk → List ℕ → ℕ → Bool → Bool → Bool → Walk
-byTests w s x a b d = choose a (choose (b || d) (walkAs (w .spare) (w .credits) (w .count) b) (walkAs s x (w .count + 1) false)) w
+byTests w s x a b d = choose a (choose (b || d) (walkAs (w .spare) (w .credits .0) (w .count .0) b) (walkAs s x (w .count .0 + 1) false)) w
 
 module _ (cs : List Course) (j : ℕ) (u : Until) where
   -- what a walk that is to go over the courses of o, or has stopped, gives
@@ -62,17 +62,17 @@ module _ (cs : List Course) (j : ℕ) (u : Until) where
   -- one course: the step leaves what the walk from that course on gives
   pub course-turn : (g : ℕ) (o : List ℕ) (w : Walk) → w .done ≡ false → left o (stepped w (courseIn cs g) j u) ≡ walkOver cs j u (g ∷ o) w
   unfolding stepped keep
-  course-turn g o w live = go (openIn cs j g) (stops u (w .credits) (w .count) (weightIn cs g)) (blocked j (w .spare) (courseIn cs g)) refl refl
+  course-turn g o w live = go (openIn cs j g) (stops u (w .credits .0) (w .count .0) (weightIn cs g)) (blocked j (w .spare) (courseIn cs g)) refl refl
     where
-      go : (a b d : Bool) → stops u (w .credits) (w .count) (weightIn cs g) ≡ b → blocked j (w .spare) (courseIn cs g) ≡ d
-          → left o (byTests w (charged j (w .spare) (courseIn cs g)) (w .credits + weightIn cs g) a b d)
-          ≡ walk (tableIn cs j) (weightIn cs) (stops u) (choose a (g ∷ keep (openIn cs j) o) (keep (openIn cs j) o)) (w .spare) (w .credits) (w .count)
+      go : (a b d : Bool) → stops u (w .credits .0) (w .count .0) (weightIn cs g) ≡ b → blocked j (w .spare) (courseIn cs g) ≡ d
+          → left o (byTests w (charged j (w .spare) (courseIn cs g)) (w .credits .0 + weightIn cs g) a b d)
+          ≡ walk (tableIn cs j) (weightIn cs) (stops u) (choose a (g ∷ keep (openIn cs j) o) (keep (openIn cs j) o)) (w .spare) (w .credits .0) (w .count .0)
       go false b d p q = live-left o w live
-      go true true d p q = sym (walk-stop (tableIn cs j) (weightIn cs) (stops u) g (keep (openIn cs j) o) (w .spare) (w .credits) (w .count) p)
+      go true true d p q = sym (walk-stop (tableIn cs j) (weightIn cs) (stops u) g (keep (openIn cs j) o) (w .spare) (w .credits .0) (w .count .0) p)
       go true false true p q =
-          sym (walk-skip (tableIn cs j) (weightIn cs) (stops u) g (keep (openIn cs j) o) (w .spare) (w .credits) (w .count) p q)
+          sym (walk-skip (tableIn cs j) (weightIn cs) (stops u) g (keep (openIn cs j) o) (w .spare) (w .credits .0) (w .count .0) p q)
       go true false false p q =
-          rw add-one (sym (walk-take (tableIn cs j) (weightIn cs) (stops u) g (keep (openIn cs j) o) (w .spare) (w .credits) (w .count) p q))
+          rw add-one (sym (walk-take (tableIn cs j) (weightIn cs) (stops u) g (keep (openIn cs j) o) (w .spare) (w .credits .0) (w .count .0) p q))
 
 -- ---- over an order
 

@@ -27,15 +27,15 @@ use Rattle.walks.specs.declared.WalkRule.the-variants.{LeastCount, MostC
 -- ---- one course
 
 abbrev pub walkAs : List ℕ → ℕ → ℕ → Bool → Walk
-walkAs s c n d = record { spare = s; credits = c; count = n; done = d }
+walkAs s c n d = record { spare = s; credits = record { 0 = c }; count = record { 0 = n }; done = d }
 
 -- passed over if it is not open; the stop is asked of an open course, skipped or not
 unfoldable pub stepped : Walk → Course → ℕ → Until → Walk
 stepped w c j u =
     choose (isOpen c j)
-    (choose (stops u (w .credits) (w .count) (c .weight .0) || blocked j (w .spare) c)
-    (walkAs (w .spare) (w .credits) (w .count) (stops u (w .credits) (w .count) (c .weight .0)))
-    (walkAs (charged j (w .spare) c) (w .credits + c .weight .0) (w .count + 1) false))
+    (choose (stops u (w .credits .0) (w .count .0) (c .weight .0) || blocked j (w .spare) c)
+    (walkAs (w .spare) (w .credits .0) (w .count .0) (stops u (w .credits .0) (w .count .0) (c .weight .0)))
+    (walkAs (charged j (w .spare) c) (w .credits .0 + c .weight .0) (w .count .0 + 1) false))
     w
 
 -- ---- the courses of an array
@@ -54,10 +54,10 @@ tableIn cs j = record { blocked = λ s i. blocked j s (courseIn cs i); charge = 
 
 -- the walk over the open courses of a list
 abbrev pub walkOver : List Course → ℕ → Until → List ℕ → Walk → Reached
-walkOver cs j u o w = walk (tableIn cs j) (weightIn cs) (stops u) (keep (openIn cs j) o) (w .spare) (w .credits) (w .count)
+walkOver cs j u o w = walk (tableIn cs j) (weightIn cs) (stops u) (keep (openIn cs j) o) (w .spare) (w .credits .0) (w .count .0)
 
 abbrev pub reached : Walk → Reached
-reached w = record { credits = w .credits; count = w .count }
+reached w = record { credits = w .credits .0; count = w .count .0 }
 
 -- ---- rule by rule
 
@@ -65,10 +65,10 @@ abbrev pub begunOf : List ℕ → Sums → Walk
 begunOf s u = walkAs s (u .fixed .0) (u .placed .0) false
 
 abbrev pub untilOf : WalkRule → Term → Until
-untilOf LeastCount t = until.Credits (t .low .0)
-untilOf MostCount t = until.Past (t .high .0)
-untilOf LeastLoad t = until.Count (t .least .0)
-untilOf MostLoad t = until.Count (t .most .0)
+untilOf LeastCount t = until.Credits (t .low)
+untilOf MostCount t = until.Past (t .high)
+untilOf LeastLoad t = until.Count (t .least)
+untilOf MostLoad t = until.Count (t .most)
 
 abbrev pub endedOf : WalkRule → Term → Reached → Outcome
 endedOf LeastCount t w = outcome 6 (ltb (w .credits) (t .low .0)) t (countsWithin t (w .count) (t .most .0))

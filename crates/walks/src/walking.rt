@@ -8,8 +8,11 @@ use rules::Outcome;
 use rules::Until;
 use totals::parts;
 use year::Course;
+use year::Courses;
+use year::Credits;
 use year::Sums;
 use year::Term;
+use year::Year;
 use year::doors;
 use year::tighter;
 ghost use mathlib.Core.Path.{_≡_};
@@ -25,42 +28,44 @@ ghost use Rattle.walks.specs.Sparing.{talliesOf};
 ghost use Rattle.walks.specs.Walking.{stepped, walkOver, reached, begunOf, untilOf, endedOf, walkedAt};
 
 // The walk ends before a course of this weight.
-fn stops(until: Until, credits: u32, count: u32, weight: u32) -> bool
-    requires { ⌜ (credits ≤ 1000000) × (weight ≤ 1000) ⌝ }
-    ensures { λ r. ⌜ r ≡ stops until credits count weight ⌝ }
+fn stops(until: Until, credits: Credits, count: Courses, weight: Credits) -> bool
+    requires { ⌜ (credits .0 ≤ 1000000) × (weight .0 ≤ 1000) ⌝ }
+    ensures { λ r. ⌜ r ≡ stops until (credits .0) (count .0) (weight .0) ⌝ }
 {
     match until {
-        Until::Credits(a) => a <= credits,
-        Until::Count(a) => a <= count,
-        Until::Past(a) => a < credits + weight,
+        Until::Credits(a) => a.0 <= credits.0,
+        Until::Count(a) => a.0 <= count.0,
+        Until::Past(a) => a.0 < credits.0 + weight.0,
     }
 }
 
 // One course of a walk in term j: passed over if it is not open, skipped if another term that lists it has nothing to spare. The stop is asked of a course that is skipped too.
 fn walk_step(w: Walk, c: Course, j: usize, until: Until) -> Walk
-    requires { ⌜ (j < 16) × (w .credits ≤ 1000000) × (w .count ≤ 1000000) × (c .weight .0 ≤ 1000) ⌝ }
+    requires { ⌜ (j < 16) × (w .credits .0 ≤ 1000000) × (w .count .0 ≤ 1000000) × (c .weight .0 ≤ 1000) ⌝ }
     ensures { λ r. ⌜ r ≡ stepped w c j until ⌝ }
-    ensures { λ r. ⌜ (r .credits ≤ w .credits + 1000) × (r .count ≤ w .count + 1) ⌝ }
+    ensures { λ r. ⌜ (r .credits .0 ≤ w .credits .0 + 1000) × (r .count .0 ≤ w .count .0 + 1) ⌝ }
 {
     if !totals::is_open(c, j) {
         return w;
     }
     let spare = w.spare;
+    let credits = w.credits;
+    let count = w.count;
     let others = c.list - doors::power(j);
-    let stop = stops(until, w.credits, w.count, c.weight.0);
+    let stop = stops(until, credits, count, c.weight);
     if stop | spares::blocked(spare, others) {
         return Walk {
             spare: spare,
-            credits: w.credits,
-            count: w.count,
+            credits: credits,
+            count: count,
             done: stop,
         };
     }
     let rest = spares::charged(spare, others);
     Walk {
         spare: rest,
-        credits: w.credits + c.weight.0,
-        count: w.count + 1,
+        credits: Credits(credits.0 + c.weight.0),
+        count: Courses(count.0 + 1),
         done: false,
     }
 }
@@ -76,7 +81,7 @@ fn walked(
     w: Walk,
 ) -> Walk
     requires { ⌜ (n ≤ 64) × (n ≤ length (now weight)) × (n ≤ length (now list)) × (n ≤ length (now order)) × (j < 16) ⌝ }
-    requires { ⌜ (w .credits ≤ 64000) × (w .count ≤ 64) × (w .done ≡ false) ⌝ }
+    requires { ⌜ (w .credits .0 ≤ 64000) × (w .count .0 ≤ 64) × (w .done ≡ false) ⌝ }
     requires { ⌜ ((k : ℕ) → k < n → getD (now order) k 0 < n) × ((i : ℕ) → i < n → getD (now weight) i 0 ≤ 1000) ⌝ }
     ensures { λ r. ⌜ reached r ≡ walkOver (coursesFrom (now (weight .entry)) (now (list .entry))) j until (take n (now (order .entry))) w ⌝ }
 {
@@ -90,13 +95,15 @@ fn walked(
 }
 
 // A walk that begins with what is fixed in its term.
-fn begun(spare: [u8; 16], u: Sums) -> Walk
+fn begun(spare: [u8; Year::TERMS], u: Sums) -> Walk
     ensures { λ r. ⌜ r ≡ begunOf spare u ⌝ }
 {
+    let fixed = u.fixed;
+    let placed = u.placed;
     Walk {
         spare: spare,
-        credits: u.fixed.0,
-        count: u.placed.0,
+        credits: fixed,
+        count: placed,
         done: false,
     }
 }
@@ -105,11 +112,15 @@ fn begun(spare: [u8; 16], u: Sums) -> Walk
 fn until(rule: WalkRule, t: Term) -> Until
     ensures { λ r. ⌜ r ≡ untilOf rule t ⌝ }
 {
+    let low = t.low;
+    let high = t.high;
+    let least = t.least;
+    let most = t.most;
     match rule {
-        WalkRule::LeastCount => Until::Credits(t.low.0),
-        WalkRule::MostCount => Until::Past(t.high.0),
-        WalkRule::LeastLoad => Until::Count(t.least.0),
-        WalkRule::MostLoad => Until::Count(t.most.0),
+        WalkRule::LeastCount => Until::Credits(low),
+        WalkRule::MostCount => Until::Past(high),
+        WalkRule::LeastLoad => Until::Count(least),
+        WalkRule::MostLoad => Until::Count(most),
     }
 }
 
@@ -119,18 +130,18 @@ fn ended(rule: WalkRule, t: Term, w: Walk) -> Outcome
 {
     match rule {
         WalkRule::LeastCount => {
-            let short = w.credits < t.low.0;
-            frame::outcome(6, short, t, tighter::counts_within(t, w.count, t.most.0))
+            let short = w.credits.0 < t.low.0;
+            frame::outcome(6, short, t, tighter::counts_within(t, w.count, t.most))
         }
         WalkRule::MostCount => {
-            frame::outcome(7, false, t, tighter::counts_within(t, t.least.0, w.count))
+            frame::outcome(7, false, t, tighter::counts_within(t, t.least, w.count))
         }
         WalkRule::LeastLoad => {
-            let short = w.count < t.least.0;
-            frame::outcome(8, short, t, tighter::credits_within(t, w.credits, t.high.0))
+            let short = w.count.0 < t.least.0;
+            frame::outcome(8, short, t, tighter::credits_within(t, w.credits, t.high))
         }
         WalkRule::MostLoad => {
-            frame::outcome(9, false, t, tighter::credits_within(t, t.low.0, w.credits))
+            frame::outcome(9, false, t, tighter::credits_within(t, t.low, w.credits))
         }
     }
 }
@@ -140,7 +151,7 @@ fn by_walk(
     rule: WalkRule,
     t: Term,
     u: Sums,
-    spare: [u8; 16],
+    spare: [u8; Year::TERMS],
     n: usize,
     weight: &[u32],
     list: &[u16],
@@ -169,7 +180,7 @@ pub fn walk_rule(
     rule: WalkRule,
     m: usize,
     n: usize,
-    sums: [Sums; 16],
+    sums: [Sums; Year::TERMS],
     tallies: Tallies,
     weight: &[u32],
     list: &[u16],

@@ -1,10 +1,12 @@
 // The two doors: a year is altered by replacing one term's bounds or one course's list, and in no other way.
 use crate::Course;
 use crate::Term;
+use crate::Tight;
 use crate::Year;
 ghost use mathlib.Core.Path.{_≡_};
 ghost use mathlib.Core.Bool.{true};
 ghost use Prim.Native.Nat.{_<_, _^_};
+ghost use Rattle.theory.specs.Choice.{choose};
 ghost use Rattle.year.specs.Year.{courseAt, lists, withTerm, withList, placed, struck};
 
 // The list of term j alone.
@@ -22,6 +24,18 @@ pub fn with_term(y: Year, j: usize, t: Term) -> Year
     let mut z = y;
     z.term[j] = t;
     z
+}
+
+// Term j with tighter bounds, where one moved.
+pub fn bounded(y: Year, j: usize, w: Tight) -> Year
+    requires { ⌜ j < 16 ⌝ }
+    ensures { λ r. ⌜ r ≡ choose (w .altered) (withTerm y j (w .term)) y ⌝ }
+{
+    if w.altered {
+        let t = w.term;
+        return with_term(y, j, t);
+    }
+    y
 }
 
 pub fn with_list(y: Year, i: usize, list: u16) -> Year

@@ -1,19 +1,17 @@
 // The four narrowings of bounds: methods on the year by value, each with its answer beside the year.
-// A refused one hands back the year it was given.
+// A refused one hands back the year as it was given.
 use crate::Courses;
 use crate::Credits;
 use crate::Narrowed;
 use crate::Narrowing;
 use crate::Term;
-use crate::Tight;
 use crate::Year;
 use crate::checks;
 use crate::doors;
 use crate::tighter;
 ghost use mathlib.Core.Path.{_≡_};
-ghost use Prim.Native.Nat.{_<_};
 ghost use Rattle.year.specs.Year.{termAt};
-ghost use Rattle.year.specs.Narrow.{boundOf, tightened, raiseLowCreditsOf, lowerHighCreditsOf, raiseLowCountOf, lowerHighCountOf};
+ghost use Rattle.year.specs.Narrow.{raiseLowCreditsOf, lowerHighCreditsOf, raiseLowCountOf, lowerHighCountOf};
 
 // Term j of the array, or zeros where it has no such entry.
 fn term_or_zero(y: Year, j: usize) -> Term
@@ -30,42 +28,6 @@ fn term_or_zero(y: Year, j: usize) -> Term
     }
 }
 
-// Term j of a sound year with the bounds of w, unless they cross.
-fn tighten(y: Year, j: usize, w: Tight) -> Narrowed
-    requires { ⌜ j < 16 ⌝ }
-    ensures { λ r. ⌜ r ≡ tightened y j w ⌝ }
-{
-    if w.crossed {
-        return Narrowed {
-            answer: Narrowing::Crossing,
-            year: y,
-        };
-    }
-    if w.altered {
-        let t = w.term;
-        let z = doors::with_term(y, j, t);
-        return Narrowed {
-            answer: Narrowing::Done,
-            year: z,
-        };
-    }
-    Narrowed {
-        answer: Narrowing::Done,
-        year: y,
-    }
-}
-
-// What the four narrowings of bounds share: refusals 8, 10 and 11, then the tighter bounds.
-fn bound(y: Year, j: usize, outside: bool, w: Tight) -> Narrowed
-    ensures { λ r. ⌜ r ≡ boundOf y j outside w ⌝ }
-{
-    let a = checks::checked(y, y.terms <= j, outside);
-    match a {
-        Narrowing::Done => tighten(y, j, w),
-        _ => Narrowed { answer: a, year: y },
-    }
-}
-
 impl Year {
     // Raises the low credits of term j to v.
     pub fn raise_low_credits(mut self, j: usize, v: Credits) -> Narrowed
@@ -73,12 +35,15 @@ impl Year {
     {
         let most = Year::CREDITS;
         let t = term_or_zero(self, j);
-        bound(
-            self,
-            j,
-            most.0 < v.0,
-            tighter::credits_within(t, v.0, t.high.0),
-        )
+        let w = tighter::credits_within(t, v, t.high);
+        let a = checks::checked(self, self.terms <= j, most.0 < v.0, w.crossed);
+        if let Narrowing::Done = a {
+            self = doors::bounded(self, j, w);
+        }
+        Narrowed {
+            answer: a,
+            year: self,
+        }
     }
 
     // Lowers the high credits of term j to v.
@@ -87,12 +52,15 @@ impl Year {
     {
         let most = Year::CREDITS;
         let t = term_or_zero(self, j);
-        bound(
-            self,
-            j,
-            most.0 < v.0,
-            tighter::credits_within(t, t.low.0, v.0),
-        )
+        let w = tighter::credits_within(t, t.low, v);
+        let a = checks::checked(self, self.terms <= j, most.0 < v.0, w.crossed);
+        if let Narrowing::Done = a {
+            self = doors::bounded(self, j, w);
+        }
+        Narrowed {
+            answer: a,
+            year: self,
+        }
     }
 
     // Raises the low count of term j to v.
@@ -101,12 +69,15 @@ impl Year {
     {
         let most = Year::COUNT;
         let t = term_or_zero(self, j);
-        bound(
-            self,
-            j,
-            most.0 < v.0,
-            tighter::counts_within(t, v.0, t.most.0),
-        )
+        let w = tighter::counts_within(t, v, t.most);
+        let a = checks::checked(self, self.terms <= j, most.0 < v.0, w.crossed);
+        if let Narrowing::Done = a {
+            self = doors::bounded(self, j, w);
+        }
+        Narrowed {
+            answer: a,
+            year: self,
+        }
     }
 
     // Lowers the high count of term j to v.
@@ -115,11 +86,14 @@ impl Year {
     {
         let most = Year::COUNT;
         let t = term_or_zero(self, j);
-        bound(
-            self,
-            j,
-            most.0 < v.0,
-            tighter::counts_within(t, t.least.0, v.0),
-        )
+        let w = tighter::counts_within(t, t.least, v);
+        let a = checks::checked(self, self.terms <= j, most.0 < v.0, w.crossed);
+        if let Narrowing::Done = a {
+            self = doors::bounded(self, j, w);
+        }
+        Narrowed {
+            answer: a,
+            year: self,
+        }
     }
 }

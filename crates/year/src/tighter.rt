@@ -27,11 +27,11 @@ pub fn less(a: u32, b: u32) -> u32
 }
 
 // Low credits raised to a, high credits lowered to b.
-pub fn credits_within(t: Term, a: u32, b: u32) -> Tight
-    ensures { λ r. ⌜ r ≡ creditsWithin t a b ⌝ }
+pub fn credits_within(t: Term, a: Credits, b: Credits) -> Tight
+    ensures { λ r. ⌜ r ≡ creditsWithin t (a .0) (b .0) ⌝ }
 {
-    let low = larger(t.low.0, a);
-    let high = smaller(t.high.0, b);
+    let low = larger(t.low.0, a.0);
+    let high = smaller(t.high.0, b.0);
     let least = t.least;
     let most = t.most;
     Tight {
@@ -41,17 +41,17 @@ pub fn credits_within(t: Term, a: u32, b: u32) -> Tight
             least: least,
             most: most,
         },
-        altered: (t.low.0 < a) | (b < t.high.0),
+        altered: (t.low.0 < a.0) | (b.0 < t.high.0),
         crossed: high < low,
     }
 }
 
 // Low count raised to a, high count lowered to b.
-pub fn counts_within(t: Term, a: u32, b: u32) -> Tight
-    ensures { λ r. ⌜ r ≡ countsWithin t a b ⌝ }
+pub fn counts_within(t: Term, a: Courses, b: Courses) -> Tight
+    ensures { λ r. ⌜ r ≡ countsWithin t (a .0) (b .0) ⌝ }
 {
-    let least = larger(t.least.0, a);
-    let most = smaller(t.most.0, b);
+    let least = larger(t.least.0, a.0);
+    let most = smaller(t.most.0, b.0);
     let low = t.low;
     let high = t.high;
     Tight {
@@ -61,7 +61,7 @@ pub fn counts_within(t: Term, a: u32, b: u32) -> Tight
             least: Courses(least),
             most: Courses(most),
         },
-        altered: (t.least.0 < a) | (b < t.most.0),
+        altered: (t.least.0 < a.0) | (b.0 < t.most.0),
         crossed: most < least,
     }
 }

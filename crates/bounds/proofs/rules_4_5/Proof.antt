@@ -1,5 +1,5 @@
 -- Each rule starts from the bounds that the rule before it left, and the courses stay.
-use mathlib.Core.Path.{_∙_}
+use mathlib.Core.Path.{refl, _∙_}
 use borrow.Author.Needs.{needs}
 use Rattle.rules.specs.Step.{overTerms, Step}
 use Rattle.frame.specs.State.{yearIn, stepIn}
@@ -34,8 +34,8 @@ over-own-sums-requires c κs =
       sums-fit (yearIn w (b .args .s)) (b .args .s .sums) (b .pre .0) (sums-held w (b .args .s) (b .pre .1)),
     )
 
-cast-over-other-terms : tie.Need-cast-over-other-terms
-cast-over-other-terms c = search needs
+cast-t8 : tie.Need-cast-t8
+cast-t8 c = search needs
 
 over-other-terms-requires : tie.Need-over-other-terms-requires
 over-other-terms-requires c κs =
@@ -51,7 +51,7 @@ returns : tie.Need-returns
 returns c =
     let b = c .before .before .before .before .before .before .before in
     let r = c .before .over-other-terms .result in
-    let fifth = row-5 (from b) (c .before .before .before .over-own-sums .result) _ (fourth (c .before .before .before)) r (c .before .over-other-terms .ensures) in
+    let fifth = row-5 (from b) (c .before .before .before .over-own-sums .result) _ (fourth (c .before .before .before)) r _ refl (c .before .over-other-terms .ensures) in
     c .with-bounds .ensures ∙ at-end (from b) r _ fifth (b .args .s) (b .pre .1)
 
 pub rules-4-5-spec : {M : Type 1} → statement M
@@ -60,7 +60,7 @@ rules-4-5-spec =
     (tie.spec
     bounds-of-requires
     over-own-sums-requires
-    cast-over-other-terms
+    cast-t8
     over-other-terms-requires
     with-bounds-requires
     returns)

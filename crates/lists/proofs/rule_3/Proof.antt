@@ -27,11 +27,11 @@ abbrev start : tie.At-loop Inv-loop μ-loop → tie.Start Inv-loop μ-loop
 start l = on l .before .before
 
 -- what a turn finds
-at : (c : tie.After-term-verdict-3 Inv-loop μ-loop) → let l = c .before .before .before .before in
+at : (c : tie.After-term-verdict-3 Inv-loop μ-loop) → let l = c .before .before .before .before .before in
     let a = start l .args in
     TermTurn rule3 (a .weight .now) (a .t1) (l .loop .z) (l .loop .j) (c .term-verdict-3 .result)
 at c =
-    let i = c .before .before .before in
+    let i = c .before .before .before .before in
     let l = i .before in
     let b = start l in
     turn-3 (b .args .weight .now) (b .args .t1) (b .pre .1 .0) (on l .if1 .left) (l .loop .j) (i .loop-test .taken) (l .loop .z) (l .loop .inv .1) (l .before .heaviest .result) (l .before .heaviest .ensures)
@@ -68,11 +68,11 @@ element-copy-out-term-verdict-3 c = search needs
 mul-term-verdict-3-2 : tie.Need-mul-term-verdict-3-2 Inv-loop μ-loop
 mul-term-verdict-3-2 c = search needs
 
-array-read-term-verdict-3 : tie.Need-array-read-term-verdict-3 Inv-loop μ-loop
-array-read-term-verdict-3 c = search needs
+array-copy-out-term-verdict-3 : tie.Need-array-copy-out-term-verdict-3 Inv-loop μ-loop
+array-copy-out-term-verdict-3 c = search needs
 
 term-verdict-3-requires : tie.Need-term-verdict-3-requires Inv-loop μ-loop
-term-verdict-3-requires c κs = let i = c .before .before in
+term-verdict-3-requires c κs = let i = c .before .before .before in
     let l = i .before in
     let b = start l in
     fits-3 (b .args .weight .now) (b .args .t1) (b .pre .1 .0) (on l .if1 .left) (l .loop .j) (i .loop-test .taken) (l .loop .z) (l .loop .inv .1) (l .before .heaviest .result) (l .before .heaviest .ensures)
@@ -82,7 +82,7 @@ enum-told c = search needs
 
 term-judged-requires : tie.Need-term-judged-requires Inv-loop μ-loop
 term-judged-requires c κs = let r = at (c .before) .ready in
-    ((start (c .before .before .before .before .before) .pre .0, r .0), (r .1, (r .2, r .3)))
+    ((start (c .before .before .before .before .before .before) .pre .0, r .0), (r .1, (r .2, r .3)))
 
 add-j : tie.Need-add-j Inv-loop μ-loop
 add-j c = search needs
@@ -115,7 +115,7 @@ rule-3-spec =
     mul-term-verdict-3
     element-copy-out-term-verdict-3
     mul-term-verdict-3-2
-    array-read-term-verdict-3
+    array-copy-out-term-verdict-3
     term-verdict-3-requires
     enum-told
     term-judged-requires

@@ -25,31 +25,31 @@ arrays b =
     (b .pre .1 .0 .terms-most, b .pre .1 .0 .term-length, ap length (sums-held w s (b .pre .1 .1)) ∙ length-tab 16 (sumsAt (yearIn w s)))
 
 -- the room is a bound of the year
-small : (c : tie.After-room) → c .room .result ≤ 64000
+small : (c : tie.After-room) → c .room .result .0 ≤ 64000
 small c = let b = c .before .before .before .before .before .before in rw (c .room .ensures) (room-most (b .args .weight .now) (b .args .s) (b .pre .1 .0))
 
 -- what is lent of the sizes: those of the courses, and those of the terms
-courses-are : (c : tie.After-course-sizes) → let a = c .before .before .before .before .before .before .before .before .before .before .args in
+courses-are : (c : tie.After-course-sizes) → let a = c .before .before .before .before .before .before .before .before .before .before .before .args in
     take (a .s .courses) (c .course-sizes .result) ≡ tab (a .s .courses) (sizeIn (a .weight .now) (a .s .list))
 courses-are c =
-    let b = c .before .before .before .before .before .before .before .before .before .before in
+    let b = c .before .before .before .before .before .before .before .before .before .before .before in
     let s = b .args .s in
     ap (take (s .courses)) (c .course-sizes .ensures) ∙ take-first 64 (s .courses) (sizeIn (b .args .weight .now) (s .list)) (b .pre .1 .0 .courses-most)
 
-terms-are : (c : tie.After-term-sizes) → let r = c .before .before .before .before .before in
+terms-are : (c : tie.After-term-sizes) → let r = c .before .before .before .before .before .before in
     let s = r .before .before .before .before .before .before .args .s in
-    take (s .terms) (c .term-sizes .result) ≡ tab (s .terms) (usedIn (s .term) (s .sums) (r .room .result))
+    take (s .terms) (c .term-sizes .result) ≡ tab (s .terms) (usedIn (s .term) (s .sums) (r .room .result .0))
 terms-are c =
-    let r = c .before .before .before .before .before in
+    let r = c .before .before .before .before .before .before in
     let b = r .before .before .before .before .before .before in
     let s = b .args .s in
-    ap (take (s .terms)) (c .term-sizes .ensures) ∙ take-first 16 (s .terms) (usedIn (s .term) (s .sums) (r .room .result)) (b .pre .1 .0 .terms-most)
+    ap (take (s .terms)) (c .term-sizes .ensures) ∙ take-first 16 (s .terms) (usedIn (s .term) (s .sums) (r .room .result .0)) (b .pre .1 .0 .terms-most)
 
-courses-lent : (c : tie.After-course-sizes) → let s = c .before .before .before .before .before .before .before .before .before .before .args .s in
+courses-lent : (c : tie.After-course-sizes) → let s = c .before .before .before .before .before .before .before .before .before .before .before .args .s in
     length (take (s .courses) (c .course-sizes .result)) ≡ s .courses
 courses-lent c = ap length (courses-are c) ∙ length-tab _ _
 
-terms-lent : (c : tie.After-term-sizes) → let s = c .before .before .before .before .before .before .before .before .before .before .before .args .s in
+terms-lent : (c : tie.After-term-sizes) → let s = c .before .before .before .before .before .before .before .before .before .before .before .before .args .s in
     length (take (s .terms) (c .term-sizes .result)) ≡ s .terms
 terms-lent c = ap length (terms-are c) ∙ length-tab _ _
 
@@ -64,59 +64,59 @@ room-requires : tie.Need-room-requires
 room-requires c κs = let q = arrays (c .before .before .before .before .before) in (q .0, q .1)
 
 returns-2 : tie.Need-returns-2
-returns-2 c = let e = c .before .before in
+returns-2 c = let e = c .before .before .before in
     let b = e .before .before .before .before .before in
-    empty-is (b .args .weight .now) (b .args .s) (b .pre .1 .1) (b .pre .1 .0) (sym (e .before .bursting .ensures) ∙ e .if1 .left) (sym (c .before .room .ensures) ∙ c .if2 .taken)
+    empty-is (b .args .weight .now) (b .args .s) (b .pre .1 .1) (b .pre .1 .0) (sym (e .before .bursting .ensures) ∙ e .if1 .left) (sym (c .before .before .room .ensures) ∙ c .if2 .taken)
 
 slice-aggregate-course-sizes : tie.Need-slice-aggregate-course-sizes
 slice-aggregate-course-sizes c = search needs
 
 course-sizes-requires : tie.Need-course-sizes-requires
-course-sizes-requires c κs = let b = c .before .before .before .before .before .before .before .before .before in
+course-sizes-requires c κs = let b = c .before .before .before .before .before .before .before .before .before .before in
     let few = b .pre .1 .0 .courses-most in
     (few, omega (arith, few, b .pre .0), omega (arith, few, list-long (b .args .weight .now) (b .args .s) (b .pre .1 .1)))
 
 term-sizes-requires : tie.Need-term-sizes-requires
-term-sizes-requires c κs = arrays (c .before .before .before .before .before .before .before .before .before .before)
+term-sizes-requires c κs = arrays (c .before .before .before .before .before .before .before .before .before .before .before)
 
-cast-limit : tie.Need-cast-limit
-cast-limit c = search needs
+cast-t18 : tie.Need-cast-t18
+cast-t18 c = search needs
 
-mul-limit : tie.Need-mul-limit
-mul-limit c = let r = c .before .before .before .before .before in
+mul-t19 : tie.Need-mul-t19
+mul-t19 c = let r = c .before .before .before .before .before .before .before in
     let b = r .before .before .before .before .before .before in
-    omega (arith, small r, mul-le-mul-right (r .room .result) (b .pre .1 .0 .terms-most))
+    omega (arith, small r, mul-le-mul-right (r .room .result .0) (b .pre .1 .0 .terms-most))
 
 array-share-prefix-course : tie.Need-array-share-prefix-course
 array-share-prefix-course c = search needs
 
 slice-aggregate-overfull : tie.Need-slice-aggregate-overfull
-slice-aggregate-overfull c = sym (courses-lent (c .before .before))
+slice-aggregate-overfull c = sym (courses-lent (c .before .before .before))
 
 array-share-prefix-own : tie.Need-array-share-prefix-own
 array-share-prefix-own c = search needs
 
 slice-aggregate-overfull-2 : tie.Need-slice-aggregate-overfull-2
-slice-aggregate-overfull-2 c = sym (terms-lent (c .before .before))
+slice-aggregate-overfull-2 c = sym (terms-lent (c .before .before .before))
 
 overfull-requires : tie.Need-overfull-requires
 overfull-requires c κs =
-    let q = c .before .before in
+    let q = c .before .before .before in
     let p = q .before in
-    let r = p .before .before .before .before in
+    let r = p .before .before .before .before .before in
     let b = r .before .before .before .before .before .before in
     (omega (arith, courses-lent p, b .pre .1 .0), omega (arith, terms-lent q, b .pre .1 .0), small r)
 
 returns-3 : tie.Need-returns-3
-returns-3 c = let q = c .before .before .before in
+returns-3 c = let q = c .before .before .before .before in
     let p = q .before in
     let e = p .before .before .before in
-    let r = e .before in
+    let r = e .before .before in
     let b = r .before .before .before .before .before .before in
     let s = b .args .s in
     c .overfull .ensures
-    ∙ ap₂ (λ x y. any (r .room .result / 2 + 1) (over x y (r .room .result) (s .terms * r .room .result))) (courses-are p) (terms-are q)
-    ∙ over-is (b .args .weight .now) s (b .pre .1 .1) (b .pre .1 .0) (sym (r .before .before .bursting .ensures) ∙ r .before .if1 .left) (r .room .result) (r .room .ensures) (e .if2 .left)
+    ∙ ap₂ (λ x y. any (r .room .result .0 / 2 + 1) (over x y (r .room .result .0) (s .terms * r .room .result .0))) (courses-are p) (terms-are q)
+    ∙ over-is (b .args .weight .now) s (b .pre .1 .1) (b .pre .1 .0) (sym (r .before .before .bursting .ensures) ∙ r .before .if1 .left) (r .room .result .0) (r .room .ensures) (e .if2 .left)
 
 pub unpackable-spec : {M : Type 1} → statement M
 unpackable-spec =
@@ -129,8 +129,8 @@ unpackable-spec =
     slice-aggregate-course-sizes
     course-sizes-requires
     term-sizes-requires
-    cast-limit
-    mul-limit
+    cast-t18
+    mul-t19
     array-share-prefix-course
     slice-aggregate-overfull
     array-share-prefix-own

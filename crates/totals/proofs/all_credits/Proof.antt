@@ -12,7 +12,7 @@ use Rattle.totals.proofs.all_credits.Statement.{statement}
 use Rattle.totals.proofs.all_credits.Tie as tie
 
 abbrev Inv-loop : tie.InvT-loop
-Inv-loop y total₀ i₀ i-end total i = (i ≤ y .courses) × (total ≡ sum i (weight y))
+Inv-loop y total₀ i₀ i-end total i = (i ≤ y .courses) × (total .0 ≡ sum i (weight y))
 
 abbrev μ-loop : tie.MeasureT-loop
 μ-loop y total₀ i₀ i-end total i = y .courses - i
@@ -29,12 +29,13 @@ element-copy-out-total c = search needs
 
 add-total : tie.Need-add-total Inv-loop μ-loop
 add-total c =
-    let b = c .before .before in
+    let l = c .before .before in
+    let b = l .before in
     omega (
       arith,
       b .pre,
-      b .pre .course-sound (c .before .loop .i) (c .loop-test .taken) .weight-most,
-      weights-to (b .args .t1) (c .before .loop .i) (weights-fit (b .args .t1) (c .before .loop .i) (b .pre) (c .before .loop .inv .0)),
+      b .pre .course-sound (l .loop .i) (c .before .loop-test .taken) .weight-most,
+      weights-to (b .args .t1) (l .loop .i) (weights-fit (b .args .t1) (l .loop .i) (b .pre) (l .loop .inv .0)),
     )
 
 add-i : tie.Need-add-i Inv-loop μ-loop
@@ -44,7 +45,7 @@ loop-less : tie.Need-loop-less Inv-loop μ-loop
 loop-less c = search needs
 
 loop-again : tie.Need-loop-again Inv-loop μ-loop
-loop-again c = (search needs, omega (arith, sum-more (c .before .loop .i) (weight (c .before .before .args .t1))))
+loop-again c = (search needs, omega (arith, sum-more (c .before .before .loop .i) (weight (c .before .before .before .args .t1))))
 
 returns : tie.Need-returns Inv-loop μ-loop
 unfolding allCredits

@@ -3,23 +3,23 @@ use borrow.Author.Needs.{needs}
 use Rattle.bounds.proofs.terms.other_terms.Statement.{statement}
 use Rattle.bounds.proofs.terms.other_terms.Tie as tie
 
-enum-told : tie.Need-enum-told
-enum-told c = search needs
+enum-known-all : tie.Need-enum-known-all
+enum-known-all c = search needs
 
 rule-2-requires : tie.Need-rule-2-requires
 rule-2-requires c κs = search needs
 
-enum-told-2 : tie.Need-enum-told-2
-enum-told-2 c = search needs
+enum-known-all-2 : tie.Need-enum-known-all-2
+enum-known-all-2 c = search needs
 
 rule-5-requires : tie.Need-rule-5-requires
 rule-5-requires c κs = search needs
 
 returns : tie.Need-returns
-returns c = rw (c .before .enum-told .given .1) (c .rule-2 .ensures)
+returns c = rw (c .before .before .all .given .1) (c .rule-2 .ensures)
 
 returns-2 : tie.Need-returns-2
-returns-2 c = rw (c .before .enum-told2 .given .1) (c .rule-5 .ensures)
+returns-2 c = rw (c .before .before .all2 .given .1) (c .rule-5 .ensures)
 
 pub other-terms-spec : {M : Type 1} → statement M
-other-terms-spec = tie.close (tie.spec enum-told rule-2-requires enum-told-2 rule-5-requires returns returns-2)
+other-terms-spec = tie.close (tie.spec enum-known-all rule-2-requires enum-known-all-2 rule-5-requires returns returns-2)

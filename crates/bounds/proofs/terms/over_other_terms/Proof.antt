@@ -21,11 +21,11 @@ use Rattle.bounds.proofs.terms.over_other_terms.Statement.{statement}
 use Rattle.bounds.proofs.terms.over_other_terms.Tie as tie
 
 abbrev Inv-loop : tie.InvT-loop
-Inv-loop q m all z₀ x₀ j₀ z x j =
-    (j ≤ m) × (z ≡ boundsOver (otherTermsAt q all) z₀ j) × (x ≡ totalsTo (z .term) 16) × ((k : ℕ) → k < 16 → TermSound (termIn (z .term) k))
+Inv-loop all m z₀ x₀ j₀ z x j =
+    (j ≤ m) × (z ≡ boundsOver (otherTermsAt all) z₀ j) × (x ≡ totalsTo (z .term) 16) × ((k : ℕ) → k < 16 → TermSound (termIn (z .term) k))
 
 abbrev μ-loop : tie.MeasureT-loop
-μ-loop q m all z₀ x₀ j₀ z x j = m - j
+μ-loop all m z₀ x₀ j₀ z x j = m - j
 
 abbrev start : tie.At-loop Inv-loop μ-loop → tie.Start Inv-loop μ-loop
 start l = l .before .before .before
@@ -42,12 +42,12 @@ long l = ap (λ (z : Bounds). length (z .term)) (l .loop .inv .1) ∙ over-long 
 
 -- the outcome of a term-turn with totals x; its term is within the sizes
 abbrev outcomeAt : tie.At-loop Inv-loop μ-loop → Totals → Outcome
-outcomeAt l x = otherTermsOf (start l .args .q) (termIn (l .loop .z .term) (l .loop .j)) x (start l .args .all)
+outcomeAt l = otherTermsOf (start l .args .all) (termIn (l .loop .z .term) (l .loop .j))
 
 new : (l : tie.At-loop Inv-loop μ-loop) → l .loop .j < 16 → (o : Outcome) → o ≡ outcomeAt l (l .loop .x) → TermSound (o .term)
 new l h o e =
     subst (λ (q : Outcome). TermSound (q .term)) (sym e)
-    (other-terms-sound (start l .args .q) (termIn (l .loop .z .term) (l .loop .j)) (l .loop .x) (start l .args .all) (l .loop .inv .3 (l .loop .j) h))
+    (other-terms-sound (start l .args .all) (termIn (l .loop .z .term) (l .loop .j)) (l .loop .x) (l .loop .inv .3 (l .loop .j) h))
 
 totals-requires : tie.Need-totals-requires Inv-loop μ-loop
 totals-requires c κs = search needs

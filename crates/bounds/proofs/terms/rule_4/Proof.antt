@@ -3,8 +3,8 @@ use borrow.Author.Needs.{needs}
 use Rattle.bounds.proofs.terms.rule_4.Statement.{statement}
 use Rattle.bounds.proofs.terms.rule_4.Tie as tie
 
-add-counts-within : tie.Need-add-counts-within
-add-counts-within c = search needs
+add-t4 : tie.Need-add-t4
+add-t4 c = search needs
 
 counts-within-requires : tie.Need-counts-within-requires
 counts-within-requires c κs = search needs
@@ -17,4 +17,4 @@ returns c = rw (c .before .counts-within .ensures) at (c .outcome .ensures)
 
 pub rule-4-spec : {M : Type 1} → statement M
 rule-4-spec =
-    tie.close (tie.spec add-counts-within counts-within-requires outcome-requires returns)
+    tie.close (tie.spec add-t4 counts-within-requires outcome-requires returns)

@@ -25,12 +25,12 @@ abbrev μ-loop : tie.MeasureT-loop
 
 -- what a turn finds
 at : (c : tie.After-course Inv-loop μ-loop) → let l = c .before .before .before in
-    let a = l .before .before .before .before .before .args in
+    let a = l .before .before .before .before .before .before .before .args in
     Turn (a .whole) (yearIn (a .weight .now) (a .t1)) (a .j) (l .loop .i) (l .loop .k) (c .course .result)
 at c =
     let i = c .before .before in
     let l = i .before in
-    let b = l .before .before .before .before .before in
+    let b = l .before .before .before .before .before .before .before in
     let a = b .args in
     turn-at (a .whole) (yearIn (a .weight .now) (a .t1)) (a .j) (l .loop .i) (l .loop .k) (c .course .result) (b .pre .1 .0) (b .pre .0 .1) (i .loop-test .taken) (l .loop .inv .1)
     (c .course .ensures ∙ sym (course-in (a .weight .now) (a .t1 .list) (l .loop .i) (omega (arith, b .pre .1 .0))))
@@ -49,7 +49,7 @@ element-copy-out-u c = search needs
 
 loop-holds : tie.Need-loop-holds Inv-loop μ-loop
 unfolding fold sumsAt fixedCredits openCredits
-loop-holds c = let b = c .before .before .before .before in
+loop-holds c = let b = c .before .before .before .before .before .before in
     let a = b .args in
     let y = yearIn (a .weight .now) (a .t1) in
     let u = sums-read y (a .t1 .sums) (sums-held (a .weight .now) (a .t1) (b .pre .1 .1)) (a .j) (omega (arith, b .pre .1 .0)) in
@@ -59,13 +59,13 @@ slice-aggregate-course : tie.Need-slice-aggregate-course Inv-loop μ-loop
 slice-aggregate-course c = search needs
 
 course-requires : tie.Need-course-requires Inv-loop μ-loop
-course-requires c κs = let b = c .before .before .before .before .before .before .before in
+course-requires c κs = let b = c .before .before .before .before .before .before .before .before .before in
     let a = b .args in
     let i : c .before .before .loop .i < 64 = omega (arith, b .pre .1 .0) in
     (omega (arith, b .pre .0 .0), omega (arith, list-long (a .weight .now) (a .t1) (b .pre .1 .1)))
 
 course-verdict-requires : tie.Need-course-verdict-requires Inv-loop μ-loop
-course-verdict-requires c κs = (omega (arith, c .before .before .before .before .before .before .before .before .pre .1 .0), omega (arith, at c .p-small))
+course-verdict-requires c κs = (omega (arith, c .before .before .before .before .before .before .before .before .before .before .before .before .pre .1 .0), omega (arith, at (c .before .before) .p-small))
 
 enum-told : tie.Need-enum-told Inv-loop μ-loop
 enum-told c = search needs
@@ -75,7 +75,7 @@ power-requires c κs = search needs
 
 sub-k : tie.Need-sub-k Inv-loop μ-loop
 sub-k c = let q = c .before .before .before .before in
-    omega (arith, c .before .power .ensures, at (q .before) .is-listed (sym (q .course-verdict .ensures) ∙ c .before .before .enum-told .given .1))
+    omega (arith, c .before .power .ensures, at (q .before .before .before) .is-listed (sym (q .course-verdict .ensures) ∙ c .before .before .enum-told .given .1))
 
 mul-k : tie.Need-mul-k Inv-loop μ-loop
 mul-k c = search needs
@@ -85,7 +85,7 @@ element-write-k c = search needs
 
 sub-k-2 : tie.Need-sub-k-2 Inv-loop μ-loop
 sub-k-2 c = let q = c .before .before .before .before in
-    omega (arith, at (q .before) .is-possible (sym (q .course-verdict .ensures) ∙ c .before .before .enum-told .given .1))
+    omega (arith, at (q .before .before .before) .is-possible (sym (q .course-verdict .ensures) ∙ c .before .before .enum-told .given .1))
 
 enum-told-2 : tie.Need-enum-told-2 Inv-loop μ-loop
 enum-told-2 c = search needs
@@ -100,7 +100,7 @@ element-write-k-2 : tie.Need-element-write-k-2 Inv-loop μ-loop
 element-write-k-2 c = search needs
 
 add-k : tie.Need-add-k Inv-loop μ-loop
-add-k c = omega (arith, at (c .before .before .before .before) .p-small)
+add-k c = omega (arith, at (c .before .before .before .before .before .before) .p-small)
 
 enum-told-3 : tie.Need-enum-told-3 Inv-loop μ-loop
 enum-told-3 c = search needs
@@ -113,20 +113,20 @@ loop-less c = search needs
 
 loop-again : tie.Need-loop-again Inv-loop μ-loop
 loop-again c = let v = c .before in
-    let t = at (v .before) in
+    let t = at (v .before .before .before) in
     let is = sym (v .course-verdict .ensures) in (
       search needs,
       ⊎-elim
-          (λ q. q .4 ∙ t .strikes (is ∙ q .1 .given .1) _ (q .2 .ensures))
+          (λ q. q .5 ∙ t .strikes (is ∙ q .1 .given .1) _ (q .2 .ensures))
           (⊎-elim
-          (λ q. q .3 ∙ t .fixes (is ∙ q .1 .given .1) _ (q .2 .ensures))
+          (λ q. q .4 ∙ t .fixes (is ∙ q .1 .given .1) _ (q .2 .ensures))
           (λ q. q .2 ∙ t .stays (is ∙ q .1 .given .1)))
           (c .match .came),
     )
 
 returns : tie.Need-returns Inv-loop μ-loop
 returns c = let l = c .before in
-    let a = l .before .before .before .before .before .args in
+    let a = l .before .before .before .before .before .before .before .args in
     let is : l .loop .i ≡ a .t1 .courses = omega arith in
     l .loop .inv .1 ∙ ap (carriedTo (a .whole) (yearIn (a .weight .now) (a .t1)) (a .j)) is
 

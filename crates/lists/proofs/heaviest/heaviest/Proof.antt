@@ -6,13 +6,13 @@ use borrow.Author.Needs.{needs}
 use Rattle.theory.specs.Tab.{tab}
 use Rattle.totals.specs.Parts.{coursesFrom}
 use Rattle.totals.proofs.PartLaws.{course-in}
-use Rattle.lists.specs.Heaviest.{heaviestTo, heaviestWith}
+use Rattle.lists.specs.Heaviest.{heaviestTo, heaviestIn, heaviestWith}
 use Rattle.lists.proofs.HeaviestLaws.{heaviest-all-more}
 use Rattle.lists.proofs.heaviest.heaviest.Statement.{statement}
 use Rattle.lists.proofs.heaviest.heaviest.Tie as tie
 
 abbrev Inv-loop : tie.InvT-loop
-Inv-loop weight list n heaviest₀ i₀ heaviest i = (i ≤ n) × (heaviest ≡ tab 16 (heaviestTo (coursesFrom weight list) i))
+Inv-loop weight list n heaviest₀ i₀ heaviest i = (i ≤ n) × (heaviest ≡ tab 16 (heaviestIn (coursesFrom weight list) i))
 
 abbrev μ-loop : tie.MeasureT-loop
 μ-loop weight list n heaviest₀ i₀ heaviest i = n - i
@@ -44,7 +44,7 @@ returns : tie.Need-returns Inv-loop μ-loop
 returns c = let l = c .before in
     let a = l .before .before .before .args in
     let is : l .loop .i ≡ a .n = omega arith in
-    l .loop .inv .1 ∙ ap (λ n. tab 16 (heaviestTo (coursesFrom (a .weight .now) (a .list .now)) n)) is
+    l .loop .inv .1 ∙ ap (λ n. tab 16 (heaviestIn (coursesFrom (a .weight .now) (a .list .now)) n)) is
 
 pub heaviest-spec : {M : Type 1} → statement M
 heaviest-spec =

@@ -1,10 +1,11 @@
 -- The loop's invariant: the array at the start, filled for the first k terms.
-use Prim.Native.Nat.{ℕ, _≤_, _-_}
+use Prim.Native.Nat.{_≤_, _-_}
 use mathlib.Core.Path.{_≡_, sym, ap, ap₂, _∙_}
 use native.Mathlib.Omega.{arith}
 use lib.ListN.{replicate, set, length-replicate}
 use borrow.Author.Needs.{needs}
 use Rattle.theory.proofs.TabLaws.{fill, fill-more, fill-all}
+use Rattle.year.specs.declared.Credits.{Credits}
 use Rattle.lists.specs.Heaviest.{heaviestWith}
 use Rattle.lists.proofs.heaviest.with_course.Statement.{statement}
 use Rattle.lists.proofs.heaviest.with_course.Tie as tie
@@ -22,8 +23,8 @@ loop-holds c = search needs
 mul-heavier : tie.Need-mul-heavier Inv-loop μ-loop
 mul-heavier c = search needs
 
-array-read-heavier : tie.Need-array-read-heavier Inv-loop μ-loop
-array-read-heavier c = search needs
+array-copy-out-heavier : tie.Need-array-copy-out-heavier Inv-loop μ-loop
+array-copy-out-heavier c = search needs
 
 heavier-requires : tie.Need-heavier-requires Inv-loop μ-loop
 heavier-requires c κs = search needs
@@ -31,8 +32,8 @@ heavier-requires c κs = search needs
 mul-r : tie.Need-mul-r Inv-loop μ-loop
 mul-r c = search needs
 
-array-write-r : tie.Need-array-write-r Inv-loop μ-loop
-array-write-r c = search needs
+array-set-from-r : tie.Need-array-set-from-r Inv-loop μ-loop
+array-set-from-r c = search needs
 
 add-k : tie.Need-add-k Inv-loop μ-loop
 add-k c = search needs
@@ -42,16 +43,17 @@ loop-less c = search needs
 
 loop-again : tie.Need-loop-again Inv-loop μ-loop
 loop-again c =
-    let l = c .before .before in
+    let l = c .before .before .before in
     let b = l .before in
-    (search needs, ap₂ (λ r v. set r (l .loop .k) v) (l .loop .inv .1) (c .heavier .ensures) ∙ sym (fill-more (heaviestWith (b .args .t1) (b .args .c)) (replicate 16 0) (l .loop .k)))
+    let e = c .heavier .ensures in
+    (search needs, ap₂ (λ r v. set r (l .loop .k) v) (l .loop .inv .1) (λ i. record { 0 = e i }) ∙ sym (fill-more (heaviestWith (b .args .t1) (b .args .c)) (replicate 16 (record { 0 = 0 })) (l .loop .k)))
 
 returns : tie.Need-returns Inv-loop μ-loop
 returns c =
     let l = c .before in
     let f = heaviestWith (l .before .args .t1) (l .before .args .c) in
     let is : l .loop .k ≡ 16 = omega arith in
-    l .loop .inv .1 ∙ ap (fill f (replicate 16 0)) is ∙ fill-all f (replicate 16 0) 0 16 (length-replicate {A = ℕ} 16 0)
+    l .loop .inv .1 ∙ ap (fill f (replicate 16 (record { 0 = 0 }))) is ∙ fill-all f (replicate 16 (record { 0 = 0 })) (record { 0 = 0 }) 16 (length-replicate {A = Credits} 16 (record { 0 = 0 }))
 
 pub with-course-spec : {M : Type 1} → statement M
 with-course-spec =
@@ -61,10 +63,10 @@ with-course-spec =
     μ-loop
     loop-holds
     mul-heavier
-    array-read-heavier
+    array-copy-out-heavier
     heavier-requires
     mul-r
-    array-write-r
+    array-set-from-r
     add-k
     loop-less
     loop-again

@@ -18,18 +18,18 @@ add-if2 c = search needs
 
 returns-2 : tie.Need-returns-2
 unfolding verdict3
-returns-2 c = simp (sym (c .before .before .before .is-open .ensures) ∙ not-false _ (c .before .before .if1 .left), lt-ltb _ _ (c .if2 .taken))
+returns-2 c = simp (sym (c .before .before .before .before .before .is-open .ensures) ∙ not-false _ (c .before .before .before .before .if1 .left), lt-ltb _ _ (c .if2 .taken))
 
 less-requires : tie.Need-less-requires
 less-requires c κs = search needs
 
 returns-3 : tie.Need-returns-3
 unfolding verdict3
-returns-3 c = let a = c .before .before in simp (sym (a .before .before .before .before .is-open .ensures) ∙ not-false _ (a .before .before .before .if1 .left), le-ltb _ _ (a .before .if2 .left), sym (a .less .ensures), lt-ltb _ _ (c .if3 .taken))
+returns-3 c = let a = c .before .before in simp (sym (a .before .before .before .before .before .before .is-open .ensures) ∙ not-false _ (a .before .before .before .before .before .if1 .left), le-ltb _ _ (a .before .if2 .left), sym (a .less .ensures), lt-ltb _ _ (c .if3 .taken))
 
 returns-4 : tie.Need-returns-4
 unfolding verdict3
-returns-4 c = let a = c .before .before in simp (sym (a .before .before .before .before .is-open .ensures) ∙ not-false _ (a .before .before .before .if1 .left), le-ltb _ _ (a .before .if2 .left), sym (a .less .ensures), le-ltb _ _ (c .if3 .left))
+returns-4 c = let a = c .before .before in simp (sym (a .before .before .before .before .before .before .is-open .ensures) ∙ not-false _ (a .before .before .before .before .before .if1 .left), le-ltb _ _ (a .before .if2 .left), sym (a .less .ensures), le-ltb _ _ (c .if3 .left))
 
 pub verdict-3-spec : {M : Type 1} → statement M
 verdict-3-spec =

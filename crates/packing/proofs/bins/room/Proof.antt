@@ -11,13 +11,13 @@ use Rattle.packing.proofs.bins.room.Statement.{statement}
 use Rattle.packing.proofs.bins.room.Tie as tie
 
 abbrev Inv-loop : tie.InvT-loop
-Inv-loop m term most₀ k₀ most k = (k ≤ m) × (most ≡ largest k (highIn term))
+Inv-loop m term most₀ k₀ most k = (k ≤ m) × (most .0 ≡ largest k (highIn term))
 
 abbrev μ-loop : tie.MeasureT-loop
 μ-loop m term most₀ k₀ most k = m - k
 
-element-copy-out-most : tie.Need-element-copy-out-most Inv-loop μ-loop
-element-copy-out-most c = search needs
+element-copy-out-t9 : tie.Need-element-copy-out-t9 Inv-loop μ-loop
+element-copy-out-t9 c = search needs
 
 loop-holds : tie.Need-loop-holds Inv-loop μ-loop
 unfolding largest
@@ -37,7 +37,7 @@ loop-less c = search needs
 
 loop-again : tie.Need-loop-again Inv-loop μ-loop
 loop-again c =
-    let more = largest-more (c .before .before .loop .k) (highIn (c .before .before .before .args .t1)) in
+    let more = largest-more (c .before .before .before .loop .k) (highIn (c .before .before .before .before .args .t1)) in
     (search needs, ⊎-elim (λ w. omega arith) (λ w. omega arith) (c .if1 .came))
 
 returns : tie.Need-returns Inv-loop μ-loop
@@ -51,7 +51,7 @@ room-spec =
     (tie.spec
     Inv-loop
     μ-loop
-    element-copy-out-most
+    element-copy-out-t9
     loop-holds
     mul-x
     element-copy-out-x

@@ -11,7 +11,7 @@ use Rattle.packing.proofs.sizes.cap_sum.Statement.{statement}
 use Rattle.packing.proofs.sizes.cap_sum.Tie as tie
 
 abbrev Inv-loop : tie.InvT-loop
-Inv-loop x c sum₀ i₀ i-end sum i = (i ≤ length x) × (sum ≡ total i (cappedAt x c)) × (sum ≤ 64000 * i)
+Inv-loop x c sum₀ i₀ i-end sum i = (i ≤ length x) × (sum .0 ≡ total i (cappedAt x (c .0))) × (sum .0 ≤ 64000 * i)
 
 abbrev μ-loop : tie.MeasureT-loop
 μ-loop x c sum₀ i₀ i-end sum i = length x - i
@@ -20,11 +20,11 @@ loop-holds : tie.Need-loop-holds Inv-loop μ-loop
 unfolding total
 loop-holds c = search needs
 
-mul-capped : tie.Need-mul-capped Inv-loop μ-loop
-mul-capped c = search needs
+mul-t8 : tie.Need-mul-t8 Inv-loop μ-loop
+mul-t8 c = search needs
 
-shared-slice-read-capped : tie.Need-shared-slice-read-capped Inv-loop μ-loop
-shared-slice-read-capped c = search needs
+shared-slice-read-t10 : tie.Need-shared-slice-read-t10 Inv-loop μ-loop
+shared-slice-read-t10 c = search needs
 
 capped-requires : tie.Need-capped-requires Inv-loop μ-loop
 capped-requires c κs = search needs
@@ -40,16 +40,16 @@ loop-less c = search needs
 
 loop-again : tie.Need-loop-again Inv-loop μ-loop
 loop-again c =
-    let l = c .before .before .before in
+    let l = c .before .before .before .before .before in
     let b = l .before .before in
-    (search needs, omega (arith, sum-more (l .loop .i) (cappedAt (b .args .x .now) (b .args .c)), c .capped .ensures), omega (arith, c .capped .ensures))
+    (search needs, omega (arith, sum-more (l .loop .i) (cappedAt (b .args .x .now) (b .args .c .0)), c .before .before .capped .ensures), omega (arith, c .before .before .capped .ensures))
 
 returns : tie.Need-returns Inv-loop μ-loop
 unfolding capSum
 returns c =
     let b = c .before .before .before in
     let is : c .before .loop .i ≡ length (b .args .x .now) = omega arith in
-    (c .before .loop .inv .1 ∙ ap (λ n. total n (cappedAt (b .args .x .now) (b .args .c))) is, omega arith)
+    (c .before .loop .inv .1 ∙ ap (λ n. total n (cappedAt (b .args .x .now) (b .args .c .0))) is, omega arith)
 
 pub cap-sum-spec : {M : Type 1} → statement M
 cap-sum-spec =
@@ -58,8 +58,8 @@ cap-sum-spec =
     Inv-loop
     μ-loop
     loop-holds
-    mul-capped
-    shared-slice-read-capped
+    mul-t8
+    shared-slice-read-t10
     capped-requires
     add-sum
     add-i

@@ -13,7 +13,7 @@ use Rattle.packing.proofs.sizes.exceeds.Statement.{statement}
 use Rattle.packing.proofs.sizes.exceeds.Tie as tie
 
 abbrev Inv-loop : tie.InvT-loop
-Inv-loop a b c limit t₀ t-end t = (t ≤ t-end) × (any t (over a b c limit) ≡ false)
+Inv-loop a b c limit t₀ t-end t = (t ≤ t-end) × (any t (over a b (c .0) (limit .0)) ≡ false)
 
 abbrev μ-loop : tie.MeasureT-loop
 μ-loop a b c limit t₀ t-end t = t-end - t
@@ -32,16 +32,16 @@ share-sum-requires-2 : tie.Need-share-sum-requires-2 Inv-loop μ-loop
 share-sum-requires-2 c κs = search needs
 
 add-if1 : tie.Need-add-if1 Inv-loop μ-loop
-add-if1 c = omega (arith, c .before .share-sum .ensures .1, c .share-sum2 .ensures .1)
+add-if1 c = omega (arith, c .before .before .before .share-sum .ensures .1, c .before .before .share-sum2 .ensures .1)
 
 returns : tie.Need-returns Inv-loop μ-loop
 returns c =
-    let l = c .before .before .before .before in
-    let b = l .before .before .before .args in
+    let l = c .before .before .before .before .before .before .before in
+    let b = l .before .before .before .before .args in
     let t = l .loop .t in
     sym
-    (any-of (b .c / 2 + 1) (over (b .a .now) (b .b .now) (b .c) (b .limit)) t (omega arith)
-    (lt-ltb (b .limit) (shareSum (b .a .now) (b .c) t + shareSum (b .b .now) (b .c) t) (omega (arith, c .before .before .share-sum .ensures .0, c .before .share-sum2 .ensures .0))))
+    (any-of (b .c .0 / 2 + 1) (over (b .a .now) (b .b .now) (b .c .0) (b .limit .0)) t (omega arith)
+    (lt-ltb (b .limit .0) (shareSum (b .a .now) (b .c .0) t + shareSum (b .b .now) (b .c .0) t) (omega (arith, c .before .before .before .before .before .share-sum .ensures .0, c .before .before .before .before .share-sum2 .ensures .0))))
 
 add-t : tie.Need-add-t Inv-loop μ-loop
 add-t c = search needs
@@ -51,19 +51,19 @@ loop-less c = search needs
 
 loop-again : tie.Need-loop-again Inv-loop μ-loop
 loop-again c =
-    let l = c .before .before .before .before in
-    let b = l .before .before .before .args in
+    let l = c .before .before .before .before .before .before .before in
+    let b = l .before .before .before .before .args in
     let t = l .loop .t in (
       search needs,
-      none-more t (over (b .a .now) (b .b .now) (b .c) (b .limit)) (l .loop .inv .1)
-          (le-ltb (b .limit) (shareSum (b .a .now) (b .c) t + shareSum (b .b .now) (b .c) t) (omega (arith, c .before .before .share-sum .ensures .0, c .before .share-sum2 .ensures .0))),
+      none-more t (over (b .a .now) (b .b .now) (b .c .0) (b .limit .0)) (l .loop .inv .1)
+          (le-ltb (b .limit .0) (shareSum (b .a .now) (b .c .0) t + shareSum (b .b .now) (b .c .0) t) (omega (arith, c .before .before .before .before .before .share-sum .ensures .0, c .before .before .before .before .share-sum2 .ensures .0))),
     )
 
 returns-2 : tie.Need-returns-2 Inv-loop μ-loop
 returns-2 c =
-    let b = c .before .before .before .before .args in
-    let is : c .before .loop .t ≡ b .c / 2 + 1 = omega arith in
-    sym (ap (λ n. any n (over (b .a .now) (b .b .now) (b .c) (b .limit))) (sym is) ∙ c .before .loop .inv .1)
+    let b = c .before .before .before .before .before .args in
+    let is : c .before .loop .t ≡ b .c .0 / 2 + 1 = omega arith in
+    sym (ap (λ n. any n (over (b .a .now) (b .b .now) (b .c .0) (b .limit .0))) (sym is) ∙ c .before .loop .inv .1)
 
 pub exceeds-spec : {M : Type 1} → statement M
 exceeds-spec =

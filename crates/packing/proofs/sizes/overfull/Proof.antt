@@ -16,8 +16,8 @@ add-if1 : tie.Need-add-if1
 add-if1 c = search needs
 
 returns : tie.Need-returns
-returns c = let b = c .before .before .before .before .before in
-    sym (none-over (b .args .a .now) (b .args .b .now) (b .args .c) (b .args .limit) (omega (arith, c .if1 .taken, c .before .before .cap-sum .ensures .0, c .before .cap-sum2 .ensures .0)))
+returns c = let b = c .before .before .before .before .before .before .before .before in
+    sym (none-over (b .args .a .now) (b .args .b .now) (b .args .c .0) (b .args .limit .0) (omega (arith, c .if1 .taken, c .before .before .before .before .before .cap-sum .ensures .0, c .before .before .before .before .cap-sum2 .ensures .0)))
 
 exceeds-requires : tie.Need-exceeds-requires
 exceeds-requires c κs = search needs

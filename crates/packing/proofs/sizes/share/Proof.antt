@@ -10,13 +10,13 @@ sub-if1 : tie.Need-sub-if1
 sub-if1 c = search needs
 
 returns : tie.Need-returns
-returns c = let a = c .before .args in (sym (share-big (a .c) (a .t) (a .x) (c .if1 .taken)), search needs)
+returns c = let a = c .before .before .before .before .args in (sym (share-big (a .c .0) (a .t .0) (a .x .0) (c .if1 .taken)), search needs)
 
 returns-2 : tie.Need-returns-2
-returns-2 c = let a = c .before .before .args in (sym (share-small (a .c) (a .t) (a .x) (c .before .if1 .left) (c .if2 .taken)), search needs)
+returns-2 c = let a = c .before .before .before .before .before .before .before .args in (sym (share-small (a .c .0) (a .t .0) (a .x .0) (c .before .before .before .if1 .left) (c .if2 .taken)), search needs)
 
 returns-3 : tie.Need-returns-3
-returns-3 c = let a = c .before .before .args in (sym (share-mid (a .c) (a .t) (a .x) (c .before .if1 .left) (c .if2 .left)), omega arith)
+returns-3 c = let a = c .before .before .before .before .before .before .before .args in (sym (share-mid (a .c .0) (a .t .0) (a .x .0) (c .before .before .before .if1 .left) (c .if2 .left)), omega arith)
 
 pub share-spec : {M : Type 1} → statement M
 share-spec = tie.close (tie.spec sub-if1 returns returns-2 returns-3)

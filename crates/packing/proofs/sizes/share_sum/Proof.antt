@@ -11,7 +11,7 @@ use Rattle.packing.proofs.sizes.share_sum.Statement.{statement}
 use Rattle.packing.proofs.sizes.share_sum.Tie as tie
 
 abbrev Inv-loop : tie.InvT-loop
-Inv-loop x c t sum₀ i₀ i-end sum i = (i ≤ length x) × (sum ≡ total i (shareAt x c t)) × (sum ≤ 64000 * i)
+Inv-loop x c t sum₀ i₀ i-end sum i = (i ≤ length x) × (sum .0 ≡ total i (shareAt x (c .0) (t .0))) × (sum .0 ≤ 64000 * i)
 
 abbrev μ-loop : tie.MeasureT-loop
 μ-loop x c t sum₀ i₀ i-end sum i = length x - i
@@ -20,11 +20,11 @@ loop-holds : tie.Need-loop-holds Inv-loop μ-loop
 unfolding total
 loop-holds c = search needs
 
-mul-share : tie.Need-mul-share Inv-loop μ-loop
-mul-share c = search needs
+mul-t9 : tie.Need-mul-t9 Inv-loop μ-loop
+mul-t9 c = search needs
 
-shared-slice-read-share : tie.Need-shared-slice-read-share Inv-loop μ-loop
-shared-slice-read-share c = search needs
+shared-slice-read-t11 : tie.Need-shared-slice-read-t11 Inv-loop μ-loop
+shared-slice-read-t11 c = search needs
 
 share-requires : tie.Need-share-requires Inv-loop μ-loop
 share-requires c κs = search needs
@@ -40,16 +40,16 @@ loop-less c = search needs
 
 loop-again : tie.Need-loop-again Inv-loop μ-loop
 loop-again c =
-    let l = c .before .before .before in
+    let l = c .before .before .before .before .before in
     let b = l .before .before in
-    (search needs, omega (arith, sum-more (l .loop .i) (shareAt (b .args .x .now) (b .args .c) (b .args .t)), c .share .ensures), omega (arith, c .share .ensures))
+    (search needs, omega (arith, sum-more (l .loop .i) (shareAt (b .args .x .now) (b .args .c .0) (b .args .t .0)), c .before .before .share .ensures), omega (arith, c .before .before .share .ensures))
 
 returns : tie.Need-returns Inv-loop μ-loop
 unfolding shareSum
 returns c =
     let b = c .before .before .before in
     let is : c .before .loop .i ≡ length (b .args .x .now) = omega arith in
-    (c .before .loop .inv .1 ∙ ap (λ n. total n (shareAt (b .args .x .now) (b .args .c) (b .args .t))) is, omega arith)
+    (c .before .loop .inv .1 ∙ ap (λ n. total n (shareAt (b .args .x .now) (b .args .c .0) (b .args .t .0))) is, omega arith)
 
 pub share-sum-spec : {M : Type 1} → statement M
 share-sum-spec =
@@ -58,8 +58,8 @@ share-sum-spec =
     Inv-loop
     μ-loop
     loop-holds
-    mul-share
-    shared-slice-read-share
+    mul-t9
+    shared-slice-read-t11
     share-requires
     add-sum
     add-i

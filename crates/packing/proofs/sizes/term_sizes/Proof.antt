@@ -11,7 +11,7 @@ use Rattle.packing.proofs.sizes.term_sizes.Statement.{statement}
 use Rattle.packing.proofs.sizes.term_sizes.Tie as tie
 
 abbrev Inv-loop : tie.InvT-loop
-Inv-loop m c term s r₀ k₀ r k = (k ≤ m) × (r ≡ fill (firstOf m (usedIn term s c)) r₀ k)
+Inv-loop m c term s r₀ k₀ r k = (k ≤ m) × (r ≡ fill (firstOf m (usedIn term s (c .0))) r₀ k)
 
 abbrev μ-loop : tie.MeasureT-loop
 μ-loop m c term s r₀ k₀ r k = m - k
@@ -55,8 +55,8 @@ loop-again c =
     let l = c .before .before .before in
     let a = l .before .args in
     let k = l .loop .k in
-    let f = usedIn (a .t1) (a .t3) (a .c) in
-    let used = c .less2 .ensures ∙ ap (λ x. a .c - x) (c .before .less .ensures) ∙ first-is (a .m) k f (c .before .before .loop-test .taken) in
+    let f = usedIn (a .t1) (a .t3) (a .c .0) in
+    let used = c .less2 .ensures ∙ ap (λ x. a .c .0 - x) (c .before .less .ensures) ∙ first-is (a .m) k f (c .before .before .loop-test .taken) in
     (search needs, ap₂ (λ r v. set r k v) (l .loop .inv .1) used ∙ sym (fill-more (firstOf (a .m) f) (replicate 16 0) k))
 
 returns : tie.Need-returns Inv-loop μ-loop
@@ -64,7 +64,7 @@ returns c =
     let b = c .before .before in
     let a = b .args in
     let is : c .before .loop .k ≡ a .m = omega arith in
-    let f = usedIn (a .t1) (a .t3) (a .c) in
+    let f = usedIn (a .t1) (a .t3) (a .c .0) in
     c .before .loop .inv .1 ∙ ap (fill (firstOf (a .m) f) (replicate 16 0)) is ∙ fill-first 16 (a .m) f (b .pre .0)
 
 pub term-sizes-spec : {M : Type 1} → statement M

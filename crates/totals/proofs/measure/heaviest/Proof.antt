@@ -14,13 +14,13 @@ use Rattle.totals.proofs.measure.heaviest.Statement.{statement}
 use Rattle.totals.proofs.measure.heaviest.Tie as tie
 
 abbrev Inv-loop : tie.InvT-loop
-Inv-loop s most₀ k₀ k-end most k = (k ≤ k-end) × (most ≡ largest k (fixedIn s))
+Inv-loop s most₀ k₀ k-end most k = (k ≤ k-end) × (most .0 ≡ largest k (fixedIn s))
 
 abbrev μ-loop : tie.MeasureT-loop
 μ-loop s most₀ k₀ k-end most k = k-end - k
 
-element-copy-out-most : tie.Need-element-copy-out-most Inv-loop μ-loop
-element-copy-out-most c = search needs
+element-copy-out-t9 : tie.Need-element-copy-out-t9 Inv-loop μ-loop
+element-copy-out-t9 c = search needs
 
 loop-holds : tie.Need-loop-holds Inv-loop μ-loop
 unfolding largest
@@ -40,8 +40,9 @@ loop-less c = search needs
 
 loop-again : tie.Need-loop-again Inv-loop μ-loop
 loop-again c =
-    let b = c .before .before .before in
-    let more = largest-more (c .before .before .loop .k) (fixedIn (b .args .t2)) in
+    let l = c .before .before .before in
+    let b = l .before in
+    let more = largest-more (l .loop .k) (fixedIn (b .args .t2)) in
     (search needs, ⊎-elim (λ w. omega arith) (λ w. omega arith) (c .if1 .came))
 
 returns : tie.Need-returns Inv-loop μ-loop
@@ -58,7 +59,7 @@ heaviest-spec =
     (tie.spec
     Inv-loop
     μ-loop
-    element-copy-out-most
+    element-copy-out-t9
     loop-holds
     mul-x
     element-copy-out-x

@@ -52,7 +52,7 @@ lightest-requires c κs = (sound (c .before .before .before .before .before), c 
 
 sub-t9 : tie.Need-sub-t9
 sub-t9 c =
-    let y = c .before .before .before .before .before .before .before .before .args .y in
+    let y = c .before .before .before .before .before .before .before .before .before .before .args .y in
     omega (arith, smallest-le-largest (y .terms) (fixedCredits y))
 
 cast-t10 : tie.Need-cast-t10
@@ -61,12 +61,13 @@ cast-t10 c = search needs
 returns-3 : tie.Need-returns-3
 unfolding imbalanceOf spreadOf
 returns-3 c =
-    let e = c .before .before in
+    let l = c .before .before in
+    let e = l .before .before in
     simp (
       test (e .before .before .before .before),
       plan (e .before) ∙ not-false _ (e .if2 .left),
-      c .before .heaviest .ensures,
-      c .lightest .ensures,
+      l .before .heaviest .ensures,
+      l .lightest .ensures,
     )
 
 pub imbalance-spec : {M : Type 1} → statement M

@@ -14,13 +14,13 @@ use Rattle.totals.proofs.measure.lightest.Statement.{statement}
 use Rattle.totals.proofs.measure.lightest.Tie as tie
 
 abbrev Inv-loop : tie.InvT-loop
-Inv-loop s least₀ k₀ k-end least k = (k ≤ k-end) × (least ≡ smallest k (fixedIn s))
+Inv-loop s least₀ k₀ k-end least k = (k ≤ k-end) × (least .0 ≡ smallest k (fixedIn s))
 
 abbrev μ-loop : tie.MeasureT-loop
 μ-loop s least₀ k₀ k-end least k = k-end - k
 
-element-copy-out-least : tie.Need-element-copy-out-least Inv-loop μ-loop
-element-copy-out-least c = search needs
+element-copy-out-t9 : tie.Need-element-copy-out-t9 Inv-loop μ-loop
+element-copy-out-t9 c = search needs
 
 loop-holds : tie.Need-loop-holds Inv-loop μ-loop
 unfolding smallest
@@ -40,8 +40,9 @@ loop-less c = search needs
 
 loop-again : tie.Need-loop-again Inv-loop μ-loop
 loop-again c =
-    let b = c .before .before .before in
-    let more = smallest-more (c .before .before .loop .k) (fixedIn (b .args .t2)) in
+    let l = c .before .before .before in
+    let b = l .before in
+    let more = smallest-more (l .loop .k) (fixedIn (b .args .t2)) in
     (search needs, ⊎-elim (λ w. omega arith) (λ w. omega arith) (c .if1 .came))
 
 returns : tie.Need-returns Inv-loop μ-loop
@@ -58,7 +59,7 @@ lightest-spec =
     (tie.spec
     Inv-loop
     μ-loop
-    element-copy-out-least
+    element-copy-out-t9
     loop-holds
     mul-x
     element-copy-out-x

@@ -19,18 +19,18 @@ add-result c = search needs
 
 returns : tie.Need-returns
 returns c =
-    let s = c .before .before .before .args in
-    sym (ap (λ u. stops u (s .credits) (s .count) (s .weight)) (c .before .until .given .1))
+    let s = c .before .before .before .before .before .args in
+    sym (ap (λ u. stops u (s .credits .0) (s .count .0) (s .weight .0)) (c .before .before .before .until .given .1))
 
 returns-2 : tie.Need-returns-2
 returns-2 c =
-    let s = c .before .before .before .args in
-    sym (ap (λ u. stops u (s .credits) (s .count) (s .weight)) (c .before .until2 .given .1))
+    let s = c .before .before .before .before .before .args in
+    sym (ap (λ u. stops u (s .credits .0) (s .count .0) (s .weight .0)) (c .before .before .before .until2 .given .1))
 
 returns-3 : tie.Need-returns-3
 returns-3 c =
-    let s = c .before .before .before .args in
-    sym (ap (λ u. stops u (s .credits) (s .count) (s .weight)) (c .before .until3 .given .1))
+    let s = c .before .before .before .before .before .before .args in
+    sym (ap (λ u. stops u (s .credits .0) (s .count .0) (s .weight .0)) (c .before .before .before .before .until3 .given .1))
 
 pub stops-spec : {M : Type 1} → statement M
 stops-spec =

@@ -27,10 +27,10 @@ is-listed c =
     and-true (lists (a .c) (a .j)) (not (isFixed (a .c) (a .j))) (is-open c) .0
 
 -- the second test is the definition's
-test-is : (c : tie.After-blocked) → let a = c .before .before .before .before .before .before .before .args in stops (a .until) (a .w .credits) (a .w .count) (a .c .weight .0) || blocked (a .j) (a .w .spare) (a .c) ≡ c .before .stops .result || c .blocked .result
+test-is : (c : tie.After-blocked) → let a = c .before .before .before .before .before .before .before .before .before .args in stops (a .until) (a .w .credits .0) (a .w .count .0) (a .c .weight .0) || blocked (a .j) (a .w .spare) (a .c) ≡ c .before .stops .result || c .blocked .result
 test-is c =
     let p = c .before .before .before in
-    let e = p .before .before in
+    let e = p .before .before .before .before in
     let a = e .before .before .args in
     let is =
     c .blocked .ensures
@@ -50,7 +50,7 @@ power-requires c κs = search needs
 
 sub-others : tie.Need-sub-others
 sub-others c =
-    let e = c .before .before .before in
+    let e = c .before .before .before .before .before in
     let a = e .before .before .args in
     omega (arith, c .before .power .ensures, has-le (a .c .list) (a .j) (is-listed e))
 
@@ -64,20 +64,20 @@ returns-2 : tie.Need-returns-2
 unfolding stepped
 returns-2 c =
     let b = c .before in
-    let e = b .before .before .before .before .before in
+    let e = b .before .before .before .before .before .before .before in
     let w = e .before .before .args .w in (
-      simp (is-open e, test-is b ∙ c .if2 .taken) (ap (λ t. walkAs (w .spare) (w .credits) (w .count) t) (b .before .stops .ensures)),
+      simp (is-open e, test-is b ∙ c .if2 .taken) (ap (λ t. walkAs (w .spare) (w .credits .0) (w .count .0) t) (b .before .stops .ensures)),
       search needs,
     )
 
 charged-requires : tie.Need-charged-requires
 charged-requires c κs = search needs
 
-add-t12 : tie.Need-add-t12
-add-t12 c = search needs
+add-t14 : tie.Need-add-t14
+add-t14 c = search needs
 
-add-t13 : tie.Need-add-t13
-add-t13 c = search needs
+add-t16 : tie.Need-add-t16
+add-t16 c = search needs
 
 returns-3 : tie.Need-returns-3
 unfolding stepped
@@ -85,13 +85,13 @@ returns-3 c =
     let h = c .before .before .before in
     let b = h .before .before in
     let p = b .before .before .before in
-    let e = p .before .before in
+    let e = p .before .before .before .before in
     let a = e .before .before .args in
     let rest =
     h .charged .ensures
     ∙ ap (λ q. tab 16 (chargedAt (a .w .spare) (a .c .list - q))) (p .power .ensures)
     ∙ charged-is (a .w .spare) (a .c) (a .j) (is-listed e) in (
-      simp (is-open e, test-is b ∙ h .before .if2 .left) (ap (λ s. walkAs s (a .w .credits + a .c .weight .0) (a .w .count + 1) false) rest),
+      simp (is-open e, test-is b ∙ h .before .if2 .left) (ap (λ s. walkAs s (a .w .credits .0 + a .c .weight .0) (a .w .count .0 + 1) false) rest),
       search needs,
     )
 
@@ -107,6 +107,6 @@ walk-step-spec =
     blocked-requires
     returns-2
     charged-requires
-    add-t12
-    add-t13
+    add-t14
+    add-t16
     returns-3)

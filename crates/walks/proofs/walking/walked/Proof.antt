@@ -16,8 +16,8 @@ abbrev Inv-loop : tie.InvT-loop
 Inv-loop weight list order n j until z₀ k₀ z k =
     (k ≤ n)
     × (left (coursesFrom weight list) j until (drop k (take n order)) z ≡ walkOver (coursesFrom weight list) j until (take n order) z₀)
-    × (z .credits ≤ 64000 + 1000 * k)
-    × (z .count ≤ 64 + k)
+    × (z .credits .0 ≤ 64000 + 1000 * k)
+    × (z .count .0 ≤ 64 + k)
 
 abbrev μ-loop : tie.MeasureT-loop
 μ-loop weight list order n j until z₀ k₀ z k = n - k

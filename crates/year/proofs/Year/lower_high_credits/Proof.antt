@@ -1,6 +1,8 @@
--- The term that is read and its bounds made tighter are the definition's.
+-- The term that is read and its bounds made tighter are the definition's; a refusal leaves the year as it was.
+use lib.Dec.{ltb}
 use borrow.Author.Needs.{needs}
 use Rattle.year.specs.Narrow.{lowerHighCreditsOf}
+use Rattle.year.proofs.CheckLaws.{bound-in, bound-done, bound-refused, no-refusal}
 use Rattle.year.proofs.Year.lower_high_credits.Statement.{statement}
 use Rattle.year.proofs.Year.lower_high_credits.Tie as tie
 
@@ -10,13 +12,43 @@ term-or-zero-requires c κs = search needs
 credits-within-requires : tie.Need-credits-within-requires
 credits-within-requires c κs = search needs
 
-bound-requires : tie.Need-bound-requires
-bound-requires c κs = search needs
+checked-requires : tie.Need-checked-requires
+checked-requires c κs = search needs
+
+enum-told : tie.Need-enum-told
+enum-told c = search needs
+
+bounded-requires : tie.Need-bounded-requires
+bounded-requires c κs =
+    let w = c .before .before .before .before .before .before in
+    let b = w .before .before .args in
+    bound-in (b .self) (b .j) (ltb 64000 (b .v .0)) (w .credits-within .result) _ (c .before .before .checked .ensures) (c .enum-told .given .1)
 
 returns : tie.Need-returns
 unfolding lowerHighCreditsOf
-returns c = rw (c .before .credits-within .ensures, c .before .before .before .before .term-or-zero .ensures) at (c .bound .ensures)
+returns c =
+    let t = c .before in
+    let w = t .before .before .before .before .before .before in
+    let b = w .before .before .args in
+    rw (w .credits-within .ensures, w .before .term-or-zero .ensures) at
+    (bound-done (b .self) (b .j) (ltb 64000 (b .v .0)) (w .credits-within .result) _ (t .before .before .checked .ensures) (t .enum-told .given .1) _ (c .bounded .ensures))
+
+returns-2 : tie.Need-returns-2
+unfolding lowerHighCreditsOf
+returns-2 c =
+    let w = c .before .before .before .before .before in
+    let b = w .before .before .args in
+    rw (w .credits-within .ensures, w .before .term-or-zero .ensures) at
+    (bound-refused (b .self) (b .j) (ltb 64000 (b .v .0)) (w .credits-within .result) _ (c .before .checked .ensures) (λ e. no-refusal (rw e at (c .match .keys2))))
 
 pub lower-high-credits-spec : {M : Type 1} → statement M
 lower-high-credits-spec =
-    tie.close (tie.spec term-or-zero-requires credits-within-requires bound-requires returns)
+    tie.close
+    (tie.spec
+    term-or-zero-requires
+    credits-within-requires
+    checked-requires
+    enum-told
+    bounded-requires
+    returns
+    returns-2)

@@ -24,7 +24,10 @@ returns-3 : tie.Need-returns-3
 returns-3 c = simp (sound (c .before .before), c .before .if2 .left, c .if3 .taken)
 
 returns-4 : tie.Need-returns-4
-returns-4 c = simp (sound (c .before .before), c .before .if2 .left, c .if3 .left)
+returns-4 c = simp (sound (c .before .before .before), c .before .before .if2 .left, c .before .if3 .left, c .if4 .taken)
+
+returns-5 : tie.Need-returns-5
+returns-5 c = simp (sound (c .before .before .before), c .before .before .if2 .left, c .before .if3 .left, c .if4 .left)
 
 pub checked-spec : {M : Type 1} → statement M
-checked-spec = tie.close (tie.spec is-sound-requires returns returns-2 returns-3 returns-4)
+checked-spec = tie.close (tie.spec is-sound-requires returns returns-2 returns-3 returns-4 returns-5)

@@ -12,7 +12,7 @@ smaller-requires c κs = search needs
 
 returns : tie.Need-returns
 unfolding countsWithin
-returns c = rw (c .before .before .before .before .smaller .ensures, c .before .before .before .before .before .larger .ensures)
+returns c = rw (c .before .before .before .before .before .before .smaller .ensures, c .before .before .before .before .before .before .before .larger .ensures)
 
 pub counts-within-spec : {M : Type 1} → statement M
 counts-within-spec = tie.close (tie.spec larger-requires smaller-requires returns)

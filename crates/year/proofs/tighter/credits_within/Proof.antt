@@ -12,7 +12,7 @@ smaller-requires c κs = search needs
 
 returns : tie.Need-returns
 unfolding creditsWithin
-returns c = rw (c .before .before .before .before .smaller .ensures, c .before .before .before .before .before .larger .ensures)
+returns c = rw (c .before .before .before .before .before .before .smaller .ensures, c .before .before .before .before .before .before .before .larger .ensures)
 
 pub credits-within-spec : {M : Type 1} → statement M
 credits-within-spec = tie.close (tie.spec larger-requires smaller-requires returns)
