@@ -1,6 +1,5 @@
 -- Codes taken apart: the three parts of every answer fit their places.
 use Prim.Native.Nat.{ℕ, _+_, _*_, _/_, _%_, _≤_, _<_}
-use mathlib.Core.Bool.{Bool, true, false}
 use mathlib.Core.List.{List}
 use mathlib.Core.Path.{_≡_, refl, ap, _∙_}
 use native.Mathlib.Omega.{arith}
@@ -21,7 +20,7 @@ use Rattle.records.specs.declared.Fault.the-variants as fault
 use Rattle.records.specs.declared.Reading.{Reading}
 use Rattle.records.specs.declared.Reading.the-variants as reading
 use Rattle.filter.specs.Filter.{filterOf}
-use Rattle.filter.specs.Numbers.{filterNumber, filterRule, filterRounds}
+use Rattle.filter.specs.Numbers.{filterNumber, filterRule}
 use Rattle.filter.specs.declared.Answer.{Answer}
 use Rattle.filter.specs.declared.Answer.the-variants.{Settled, Open, NoPlan, Unsound}
 use Rattle.boundary.specs.Packed.{Told, told, packed, apart, readingTold, shortTold, narrowingTold, measuredTold, answerDetail, answerTold}

@@ -1,52 +1,46 @@
 -- The imbalance: given exactly where every course has one term and that placing is a plan, and what it is.
-use Prim.Native.Nat.{ℕ, _-_}
-use mathlib.Core.Bool.{Bool, true, false, _&&_, true≢false}
+use Prim.Native.Nat.{ℕ}
+use mathlib.Core.Bool.{Bool, true, false, true≢false}
 use mathlib.Core.Logic.{_↔_, _⊎_, inl, inr}
 use mathlib.Core.Path.{_≡_, refl, sym, ap, fun-ext, _∙_}
 use native.Mathlib.Omega.{arith}
-use lib.Dec.{leb}
-use borrow.Author.Tests.{leb-true, le-leb}
+use lib.Dec.{ltb}
+use borrow.Author.Tests.{lt-ltb}
 use Rattle.theory.specs.Tests.{all}
-use Rattle.theory.proofs.TestLaws.{all-at, all-of, and-true, and-of}
-use Rattle.year.specs.Year.{termAt}
+use Rattle.theory.proofs.TestLaws.{all-of, and-true, and-of}
+use Rattle.year.specs.Year.{termAt, courseAt, lists}
 use Rattle.year.specs.Sums.{fixedCredits, fixedCount, allPlaced}
 use Rattle.year.specs.Imbalance.{fits, fitsAt, onePlan, spreadOf, imbalanceOf}
-use Rattle.year.specs.Plans.{Placing, creditsIn, Plan}
+use Rattle.year.specs.Plans.{Placing, creditsIn, Plan, stands, fitsIn, isPlan}
 use Rattle.year.specs.Sound.{Sound, isSound}
-use Rattle.year.specs.declared.Term.{Term}
 use Rattle.year.specs.declared.Year.{Year}
 use Rattle.year.specs.Numbers.{imbalanceNumber, imbalanceValue}
 use Rattle.year.specs.declared.Measured.{Measured}
 use Rattle.year.specs.declared.Measured.the-variants.{Imbalance, Unsound, Unsettled}
 use Rattle.year.proofs.SoundLaws.{sound-of, sound-to}
-use Rattle.rules.proofs.DoorPlans.{Holds, holds-of, plan-of}
+use Rattle.year.proofs.PlanCount.{plan-of-test, test-of-plan}
 use Rattle.promises.specs.OnePlacing.{PlacedBy, thePlacing}
 use Rattle.promises.specs.ImbalancePlan.{spreadIn, ImbalanceDue}
 use Rattle.promises.proofs.OnePlacing.{placed-within, placed-listed, credits-are, counts-are}
 use Rattle.promises.proofs.SettledPlan.{placed-by, all-placed}
 
--- the test of a term and the facts say the same
-holds-fit : (t : Term) (c n : ℕ) → Holds t c n → fits t c n ≡ true
-holds-fit t c n h = simp (le-leb _ _ (h .credits-low), le-leb _ _ (h .credits-high), le-leb _ _ (h .count-low), le-leb _ _ (h .count-high))
-
-fit-holds : (t : Term) (c n : ℕ) → fits t c n ≡ true → Holds t c n
-fit-holds t c n e =
-    let p = and-true (leb (t .low .0) c && leb c (t .high .0) && leb (t .least .0) n) (leb n (t .most .0)) e in
-    let q = and-true (leb (t .low .0) c && leb c (t .high .0)) (leb (t .least .0) n) (p .0) in
-    let r = and-true (leb (t .low .0) c) (leb c (t .high .0)) (q .0) in
-    record { credits-low = leb-true _ _ (r .0); credits-high = leb-true _ _ (r .1); count-low = leb-true _ _ (q .1); count-high = leb-true _ _ (p .1) }
-
 module _ (y : Year) (p : Placing) (s : Sound y) (h : PlacedBy y p) where
+  -- what is fixed in a term is what the placing puts there
+  fits-same : fitsAt y ≡ fitsIn y p
+  fits-same = fun-ext (λ k. ap (λ c. fits (termAt y k) c (fixedCount y k)) (credits-are y p h k .0) ∙ ap (fits (termAt y k) (creditsIn y p k)) (counts-are y p h k .0))
+
   one-plan : (onePlan y ≡ true) ↔ Plan y p
-  unfolding onePlan
+  unfolding onePlan isPlan
   one-plan = (
     λ e.
-        plan-of y p (placed-within y p h s) (placed-listed y p h)
-        (λ k l. rw (credits-are y p h k .0, counts-are y p h k .0) at
-        (fit-holds (termAt y k) (fixedCredits y k) (fixedCount y k) (all-at (y .terms) (fitsAt y) (and-true (allPlaced y) (all (y .terms) (fitsAt y)) e .1) k l))),
+        plan-of-test y p
+        (and-of (all (y .courses) (stands y p)) (all (y .terms) (fitsIn y p))
+        (all-of (y .courses) (stands y p)
+        (λ i l. and-of (ltb (p i) (y .terms)) (lists (courseAt y i) (p i)) (lt-ltb _ _ (placed-within y p h s i l)) (placed-listed y p h i l)))
+        (rw fits-same at (and-true (allPlaced y) (all (y .terms) (fitsAt y)) e .1))),
     λ q.
         and-of (allPlaced y) (all (y .terms) (fitsAt y)) (all-placed y p s h)
-        (all-of (y .terms) (fitsAt y) (λ k l. holds-fit (termAt y k) (fixedCredits y k) (fixedCount y k) (rw (credits-are y p h k .0, counts-are y p h k .0) (holds-of y p q k l)))),
+        (rw fits-same (and-true (all (y .courses) (stands y p)) (all (y .terms) (fitsIn y p)) (test-of-plan y p q) .1)),
   )
 
   imbalance-is : Plan y p → imbalanceOf y ≡ Imbalance (spreadIn y p)

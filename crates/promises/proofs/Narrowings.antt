@@ -1,5 +1,5 @@
 -- The six narrowings: each keeps what is promised of it. The four on bounds go by one law, the two on lists each by its door.
-use Prim.Native.Nat.{ℕ, _-_, _^_, _≤_, _<_, min, max}
+use Prim.Native.Nat.{ℕ, _^_, _≤_, _<_, min, max}
 use mathlib.Core.Bool.{Bool, true, false, _||_, true≢false}
 use mathlib.Core.Logic.{_↔_}
 use mathlib.Core.Path.{_≡_, refl, sym, ap, subst, _∙_}
