@@ -1,0 +1,2 @@
+-- Laws about texts.
+pub mod TextLaws
