@@ -2,7 +2,7 @@
 use Prim.Native.Nat.{ℕ}
 use mathlib.Core.List.{List, [], _∷_}
 use mathlib.Core.Path.{_≡_, refl}
-use Rattle.text.specs.Text.{placesOf, decimalOf, numbersOf, rowOf, lineOf, termsTo, commasOf, listedOf}
+use Rattle.text.specs.Text.{placesOf, decimalOf, numbersOf, rowOf, lineOf, termsTo, commasOf, termsOf}
 
 -- one to five digits
 pub small : (decimalOf 0 ≡ 48 ∷ [])
@@ -29,16 +29,16 @@ unfolding lineOf rowOf numbersOf decimalOf placesOf
 lines = (refl, refl)
 
 -- no term; term 3; "0,1"; "1,10,15"
-pub some-terms : (listedOf 0 ≡ [])
-    × (listedOf 8 ≡ 51 ∷ [])
-    × (listedOf 3 ≡ 48 ∷ 44 ∷ 49 ∷ [])
-    × (listedOf 33794 ≡ 49 ∷ 44 ∷ 49 ∷ 48 ∷ 44 ∷ 49 ∷ 53 ∷ [])
-unfolding listedOf commasOf termsTo decimalOf placesOf
+pub some-terms : (termsOf 0 ≡ [])
+    × (termsOf 8 ≡ 51 ∷ [])
+    × (termsOf 3 ≡ 48 ∷ 44 ∷ 49 ∷ [])
+    × (termsOf 33794 ≡ 49 ∷ 44 ∷ 49 ∷ 48 ∷ 44 ∷ 49 ∷ 53 ∷ [])
+unfolding termsOf commasOf termsTo decimalOf placesOf
 some-terms = (refl, refl, refl, refl)
 
 -- all sixteen: "0,1,2,3,4,5,6,7,8,9,10,11,12,13,14,15"
-pub all-terms : listedOf 65535 ≡
+pub all-terms : termsOf 65535 ≡
     48 ∷ 44 ∷ 49 ∷ 44 ∷ 50 ∷ 44 ∷ 51 ∷ 44 ∷ 52 ∷ 44 ∷ 53 ∷ 44 ∷ 54 ∷ 44 ∷ 55 ∷ 44 ∷ 56 ∷ 44 ∷ 57 ∷ 44
     ∷ 49 ∷ 48 ∷ 44 ∷ 49 ∷ 49 ∷ 44 ∷ 49 ∷ 50 ∷ 44 ∷ 49 ∷ 51 ∷ 44 ∷ 49 ∷ 52 ∷ 44 ∷ 49 ∷ 53 ∷ []
-unfolding listedOf commasOf termsTo decimalOf placesOf
+unfolding termsOf commasOf termsTo decimalOf placesOf
 all-terms = refl

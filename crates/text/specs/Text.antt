@@ -78,5 +78,5 @@ commasOf (n ∷ []) = decimalOf n
 commasOf (n ∷ m ∷ ns) = decimalOf n ++ comma ++ commasOf (m ∷ ns)
 
 -- the terms of a list of up to sixteen
-unfoldable pub listedOf : ℕ → List ℕ
-listedOf l = commasOf (termsTo l 16)
+unfoldable pub termsOf : ℕ → List ℕ
+termsOf l = commasOf (termsTo l 16)

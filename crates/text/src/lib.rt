@@ -2,7 +2,7 @@
 ghost use mathlib.Core.Path.{_≡_};
 ghost use Prim.Native.Nat.{_+_, _<_, _≤_};
 ghost use lib.ListN.{length};
-ghost use Rattle.text.specs.Text.{digitOf, tenOf, placesOf, decimalOf, numberedOf, numbersOf, rowOf, lineOf, listedOf};
+ghost use Rattle.text.specs.Text.{digitOf, tenOf, placesOf, decimalOf, numberedOf, numbersOf, rowOf, lineOf, termsOf};
 ghost use Rattle.text.specs.Put.{Put, commaOf, pieceOf};
 
 // The digits of the largest number.
@@ -157,9 +157,9 @@ fn piece(buf: &mut [u8], at: usize, some: bool, list: u16, j: u32) -> usize
 }
 
 // The terms of a list, with commas between them.
-pub fn listed(buf: &mut [u8], at: usize, list: u16) -> usize
-    requires { ⌜ at + length (listedOf list) ≤ length (now buf) ⌝ }
-    ensures { λ r. ⌜ Put (now (buf .entry)) at (listedOf list) (now (buf .exit)) r ⌝ }
+pub fn terms(buf: &mut [u8], at: usize, list: u16) -> usize
+    requires { ⌜ at + length (termsOf list) ≤ length (now buf) ⌝ }
+    ensures { λ r. ⌜ Put (now (buf .entry)) at (termsOf list) (now (buf .exit)) r ⌝ }
 {
     let mut end = at;
     let mut some = false;
