@@ -110,7 +110,8 @@ abbrev pub someOf : List ℕ → Bool
 someOf [] = false
 someOf (n ∷ ns) = true
 
-commas-append : (ns : List ℕ) (n : ℕ) → commasOf (ns ++ n ∷ []) ≡ commasOf ns ++ (commaOf (someOf ns) ++ decimalOf n)
+-- one number more behind others
+pub commas-append : (ns : List ℕ) (n : ℕ) → commasOf (ns ++ n ∷ []) ≡ commasOf ns ++ (commaOf (someOf ns) ++ decimalOf n)
 unfolding commasOf
 commas-append [] n = refl
 commas-append (m ∷ []) n = append-assoc (decimalOf m) comma (decimalOf n)
