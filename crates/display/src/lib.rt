@@ -6,11 +6,12 @@ use year::Term;
 use year::Year;
 ghost use mathlib.Core.Path.{_≡_};
 ghost use Prim.Native.Nat.{_+_, _<_, _≤_};
-ghost use lib.ListN.{length};
+ghost use lib.ListN.{length, take};
 ghost use Rattle.text.specs.Put.{Put};
 ghost use Rattle.year.specs.Sound.{Sound};
 ghost use Rattle.records.specs.Writing.{joined};
 ghost use Rattle.filter.specs.Filter.{filterOf};
+ghost use Rattle.display.specs.Numbers.{listedLength};
 ghost use Rattle.display.specs.Listing.{termLine, courseLine, termLineAt, courseLineAt, yearText, pairText, filteredText, listingOf, listedOf, listedIn};
 
 // How a listing ended: done, with the length of the text, or refused by 9.
@@ -136,4 +137,19 @@ pub fn listing(list: &[u8], out: &mut [u8]) -> Listed
     }
     text::put(out, 0, &page[..n]);
     Listed::Done(n)
+}
+
+// The front part of a buffer that holds the text.
+pub fn front<'a>(out: &'a [u8], a: Listed) -> &'a [u8]
+    ensures { λ r. ⌜ now r ≡ take (listedLength a) (now (out .entry)) ⌝ }
+{
+    match a {
+        Listed::Done(n) => {
+            if n <= out.len() {
+                return &out[..n];
+            }
+            out
+        }
+        Listed::Short => &out[..0],
+    }
 }
