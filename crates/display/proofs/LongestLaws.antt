@@ -7,7 +7,9 @@ use mathlib.Core.Bool.{Bool, true, false}
 use mathlib.Core.List.{List, [], _∷_, _++_}
 use mathlib.Core.Path.{_≡_, refl, ap, sym, _∙_}
 use lib.Dec.{eqb}
-use lib.ListN.{length, length-append}
+use lib.ListN.{length, take, drop, length-append}
+use lib.Seq.{take-append-seam}
+use borrow.Author.Tests.{le-leb}
 use Rattle.theory.specs.Choice.{choose}
 use Rattle.theory.specs.Sum.{sum}
 use Rattle.text.specs.Text.{newline, blank, placesOf, numbersOf, rowOf, lineOf, termsOf}
@@ -29,7 +31,8 @@ use Rattle.filter.specs.Numbers.{filterNumber, filterRounds}
 use Rattle.filter.specs.declared.Answer.{Answer}
 use Rattle.filter.specs.declared.Answer.the-variants.{Settled, Open, NoPlan, Unsound}
 use Rattle.filter.specs.declared.Filtered.{Filtered}
-use Rattle.display.specs.Listing.{settledWord, openWord, noPlanWord, refusedWord, termWord, courseWord, termLine, courseLine, termLineAt, courseLineAt, yearText, pairText, answerText, filteredText, readingText, listingOf}
+use Rattle.display.specs.Listing.{settledWord, openWord, noPlanWord, refusedWord, termWord, courseWord, termLine, courseLine, termLineAt, courseLineAt, yearText, pairText, answerText, filteredText, readingText, listingOf, listedOf, listedIn}
+use Rattle.display.specs.Numbers.{listedLength}
 use Rattle.display.proofs.ListingLaws.{filtered-sound, received-by, received-sound}
 
 -- ---- digits
@@ -201,3 +204,11 @@ longest s = go (readList s .answer) refl
         (answer-length (filterOf y .answer) (filterOf y .year) (filter-rounds y) (filtered-sound y (filterOf y) refl sound))
     go (reading.Refused f k) e =
         rw (received-by s (readList s) (reading.Refused f k) refl e) (omega (arith, pair-length refusedWord (faultNumber f) k))
+
+-- a buffer of as many bytes is never too short: its front part, as long as the answer says, is the listing
+pub listing-whole : (s b : List ℕ) → length b ≡ 3436 → take (listedLength (listedOf s (length b))) (listedIn s b) ≡ listingOf s
+unfolding listedOf listedIn
+listing-whole s b e =
+    let t = listingOf s in
+    let fits = le-leb (length t) (length b) (omega (arith, longest s)) in
+    rw fits (take-append-seam t (drop (length t) b))
