@@ -5,8 +5,8 @@ use native.Mathlib.Omega.{arith}
 use mathlib.Core.Bool.{true, false}
 use mathlib.Core.Logic.{_⊎_, inl, inr}
 use mathlib.Core.List.{List, [], _∷_, _++_}
-use mathlib.Core.Path.{_≡_, refl, ap, ap₂, sym, _∙_}
-use lib.ListN.{length, take, drop, length-append}
+use mathlib.Core.Path.{_≡_, refl, ap, ap₂, sym, subst, _∙_}
+use lib.ListN.{length, take, drop}
 use lib.Seq.{paste, take-length, take-paste}
 use borrow.Author.Tests.{le-leb, lt-leb}
 use Rattle.text.specs.Text.{newline, blank, rowOf, lineOf, termsOf}
@@ -68,26 +68,49 @@ year-rooms d word n y h =
 
 -- ---- answers
 
--- what a filtering prints by its answer a
-pub filtered-by : (y : Year) (f : Filtered) (a : Answer) → f ≡ filterOf y → f .answer ≡ a → filteredText (filterOf y) ≡ answerText a (f .year)
-filtered-by y f a e q = ap filteredText (sym e) ∙ ap (λ (b : Answer). answerText b (f .year)) q
+module _ (y : Year) (f : Filtered) (e : f ≡ filterOf y) where
+  -- the filtered year is sound
+  pub filtered-sound : Sound y → Sound (f .year)
+  filtered-sound s = rw e (filter-narrower y s .sound)
 
--- the filtered year is sound
-pub filtered-sound : (y : Year) (f : Filtered) → f ≡ filterOf y → Sound y → Sound (f .year)
-filtered-sound y f e s = rw e (filter-narrower y s .sound)
+  -- what a filtering prints by its answer a
+  module _ (a : Answer) (q : f .answer ≡ a) where
+    by : filteredText (filterOf y) ≡ answerText a (f .year)
+    by = ap filteredText (sym e) ∙ ap (λ (b : Answer). answerText b (f .year)) q
 
--- what a reading prints by its answer a
-pub received-by : (s : List ℕ) (r : Received) (a : Reading) → r ≡ readList s → r .answer ≡ a → listingOf s ≡ readingText a (r .year)
-unfolding listingOf
-received-by s r a e q = ap receivedText (sym e) ∙ ap (λ (b : Reading). readingText b (r .year)) q
+    pub filtered-room : (m : ℕ) → length (filteredText (filterOf y)) ≤ m → length (answerText a (f .year)) ≤ m
+    filtered-room m h = subst (λ (t : List ℕ). length t ≤ m) by h
 
--- what was read is sound
-pub received-sound : (s : List ℕ) (r : Received) → r ≡ readList s → r .answer ≡ reading.Done → Sound (r .year)
-received-sound s r e q = read-sound s (r .year) (sym e ∙ (λ i. record { answer = q i; year = r .year }))
+    pub filtered-put : (d d′ : List ℕ) (r : ℕ) → Put d 0 (answerText a (f .year)) d′ r → Put d 0 (filteredText (filterOf y)) d′ r
+    filtered-put d d′ r p = subst (λ (t : List ℕ). Put d 0 t d′ r) (sym by) p
 
--- what a refused reading prints
-pub refused-by : (s : List ℕ) (r : Received) (f : Fault) (k n : ℕ) → r ≡ readList s → r .answer ≡ reading.Refused f k → n ≡ faultNumber f → listingOf s ≡ pairText refusedWord n k
-refused-by s r f k n e q m = received-by s r (reading.Refused f k) e q ∙ ap (λ (x : ℕ). pairText refusedWord x k) (sym m)
+module _ (s : List ℕ) (r : Received) (e : r ≡ readList s) where
+  -- what was read is sound
+  pub received-sound : r .answer ≡ reading.Done → Sound (r .year)
+  received-sound q = read-sound s (r .year) (sym e ∙ (λ i. record { answer = q i; year = r .year }))
+
+  -- what a reading prints by its answer a, as the text t
+  module _ (a : Reading) (q : r .answer ≡ a) (t : List ℕ) (is : readingText a (r .year) ≡ t) where
+    pub received-by : listingOf s ≡ t
+    unfolding listingOf
+    received-by = ap receivedText (sym e) ∙ ap (λ (b : Reading). readingText b (r .year)) q ∙ is
+
+    pub received-room : (m : ℕ) → length (listingOf s) ≤ m → length t ≤ m
+    received-room m h = subst (λ (x : List ℕ). length x ≤ m) received-by h
+
+    pub received-put : (d d′ : List ℕ) (n : ℕ) → Put d 0 t d′ n → Put d 0 (listingOf s) d′ n
+    received-put d d′ n p = subst (λ (x : List ℕ). Put d 0 x d′ n) (sym received-by) p
+
+  -- a refusal by its number n
+  module _ (f : Fault) (k n : ℕ) (q : r .answer ≡ reading.Refused f k) (m : n ≡ faultNumber f) where
+    told : pairText refusedWord (faultNumber f) k ≡ pairText refusedWord n k
+    told = ap (λ (x : ℕ). pairText refusedWord x k) (sym m)
+
+    pub refused-room : (b : ℕ) → length (listingOf s) ≤ b → length (pairText refusedWord n k) ≤ b
+    refused-room b h = received-room (reading.Refused f k) q (pairText refusedWord n k) told b h
+
+    pub refused-put : (d d′ : List ℕ) (x : ℕ) → Put d 0 (pairText refusedWord n k) d′ x → Put d 0 (listingOf s) d′ x
+    refused-put d d′ x p = received-put (reading.Refused f k) q (pairText refusedWord n k) told d d′ x p
 
 -- a list has 80 records at most
 pub place-small : (s : List ℕ) (f : Fault) (k : ℕ) → readList s .answer ≡ reading.Refused f k → k < 4294967296

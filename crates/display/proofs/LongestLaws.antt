@@ -5,33 +5,32 @@ use native.Mathlib.Nat.{add-zero, add-suc, le-refl}
 use native.Mathlib.Omega.{arith}
 use mathlib.Core.Bool.{Bool, true, false}
 use mathlib.Core.List.{List, [], _∷_, _++_}
-use mathlib.Core.Path.{_≡_, refl, ap, sym, _∙_}
+use mathlib.Core.Path.{_≡_, refl, ap}
 use lib.Dec.{eqb}
 use lib.ListN.{length, take, drop, length-append}
 use lib.Seq.{take-append-seam}
 use borrow.Author.Tests.{le-leb}
 use Rattle.theory.specs.Choice.{choose}
 use Rattle.theory.specs.Sum.{sum}
-use Rattle.text.specs.Text.{newline, blank, placesOf, numbersOf, rowOf, lineOf, termsOf}
+use Rattle.text.specs.Text.{newline, blank, placesOf, rowOf, lineOf, termsOf}
 use Rattle.text.proofs.LengthLaws.{places-mono, places-most, numbers-length, no-numbers, row-length, line-length, terms-length}
 use Rattle.year.specs.Sound.{isSound, TermSound, CourseSound, Sound}
 use Rattle.year.specs.Sums.{allPlaced}
 use Rattle.year.specs.declared.Term.{Term}
 use Rattle.year.specs.declared.Course.{Course}
 use Rattle.year.specs.declared.Year.{Year}
-use Rattle.records.specs.Reading.{done, readList}
+use Rattle.records.specs.Reading.{readList}
 use Rattle.records.specs.Numbers.{faultNumber}
 use Rattle.records.specs.Writing.{joined}
 use Rattle.records.specs.declared.Reading.{Reading}
 use Rattle.records.specs.declared.Reading.the-variants as reading
-use Rattle.records.proofs.ListLaws.{read-sound}
 use Rattle.rules.specs.Round.{round}
 use Rattle.filter.specs.Filter.{filtered, atRest, roundsFrom, filterOf}
 use Rattle.filter.specs.Numbers.{filterNumber, filterRounds}
 use Rattle.filter.specs.declared.Answer.{Answer}
 use Rattle.filter.specs.declared.Answer.the-variants.{Settled, Open, NoPlan, Unsound}
 use Rattle.filter.specs.declared.Filtered.{Filtered}
-use Rattle.display.specs.Listing.{settledWord, openWord, noPlanWord, refusedWord, termWord, courseWord, termLine, courseLine, termLineAt, courseLineAt, yearText, pairText, answerText, filteredText, readingText, listingOf, listedOf, listedIn}
+use Rattle.display.specs.Listing.{settledWord, openWord, noPlanWord, refusedWord, termWord, courseWord, termLine, courseLine, termLineAt, courseLineAt, yearText, pairText, answerText, filteredText, listingOf, listedOf, listedIn}
 use Rattle.display.specs.Numbers.{listedLength}
 use Rattle.display.proofs.ListingLaws.{filtered-sound, received-by, received-sound}
 
@@ -200,10 +199,11 @@ longest s = go (readList s .answer) refl
     go reading.Done e =
         let y = readList s .year in
         let sound = received-sound s (readList s) refl e in
-        rw (received-by s (readList s) reading.Done refl e)
+        rw (received-by s (readList s) refl reading.Done e (filteredText (filterOf y)) refl)
         (answer-length (filterOf y .answer) (filterOf y .year) (filter-rounds y) (filtered-sound y (filterOf y) refl sound))
     go (reading.Refused f k) e =
-        rw (received-by s (readList s) (reading.Refused f k) refl e) (omega (arith, pair-length refusedWord (faultNumber f) k))
+        rw (received-by s (readList s) refl (reading.Refused f k) e (pairText refusedWord (faultNumber f) k) refl)
+        (omega (arith, pair-length refusedWord (faultNumber f) k))
 
 -- a buffer of as many bytes is never too short: its front part, as long as the answer says, is the listing
 pub listing-whole : (s b : List ℕ) → length b ≡ 3436 → take (listedLength (listedOf s (length b))) (listedIn s b) ≡ listingOf s

@@ -1,6 +1,5 @@
 -- Closed examples, by computation: a number of each length, lines, and lists of no, one, some and all terms.
-use Prim.Native.Nat.{ℕ}
-use mathlib.Core.List.{List, [], _∷_}
+use mathlib.Core.List.{[], _∷_}
 use mathlib.Core.Path.{_≡_, refl}
 use Rattle.text.specs.Text.{placesOf, decimalOf, numbersOf, rowOf, lineOf, termsTo, commasOf, termsOf}
 

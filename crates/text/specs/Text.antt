@@ -1,6 +1,5 @@
 -- Text as a list of bytes: numbers in decimal, lines of a word and numbers, and the terms of a list with commas.
 use Prim.Native.Nat.{ℕ, zero, suc, _+_, _-_, _/_, _%_}
-use mathlib.Core.Bool.{Bool, true, false}
 use mathlib.Core.List.{List, [], _∷_, _++_}
 use lib.Dec.{ltb}
 use lib.ListN.{drop}

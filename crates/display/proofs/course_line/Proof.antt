@@ -29,21 +29,35 @@ put-requires : tie.Need-put-requires
 put-requires c κs = text.room _ (c .before .before .before .before .row .ensures) (rooms (c .before .before .before .before .before .before .before .before .before) .1)
 
 terms-requires : tie.Need-terms-requires
-terms-requires c κs = text.room _ (text.puts (c .before .before .before .before .before .before .before .before .row .ensures) (c .before .before .before .put .ensures) (rooms (c .before .before .before .before .before .before .before .before .before .before .before .before .before) .1)) (rooms (c .before .before .before .before .before .before .before .before .before .before .before .before .before) .2)
+terms-requires c κs =
+    let r = c .before .before .before .before .before .before .before .before in
+    let h = rooms (r .before .before .before .before .before) in
+    text.room _ (text.puts (r .row .ensures) (c .before .before .before .put .ensures) (h .1)) (h .2)
 
 slice-aggregate-put-2 : tie.Need-slice-aggregate-put-2
 slice-aggregate-put-2 c = search needs
 
 put-requires-2 : tie.Need-put-requires-2
 unfolding courseLine
-put-requires-2 c κs = text.room _ (text.puts (text.puts (c .before .before .before .before .before .before .before .before .before .before .before .before .before .row .ensures) (c .before .before .before .before .before .before .before .before .put .ensures) (rooms (c .before .before .before .before .before .before .before .before .before .before .before .before .before .before .before .before .before .before) .1)) (c .before .before .before .before .terms .ensures) (rooms (c .before .before .before .before .before .before .before .before .before .before .before .before .before .before .before .before .before .before) .2)) (c .before .before .before .before .before .before .before .before .before .before .before .before .before .before .before .before .before .before .pre .1)
+put-requires-2 c κs =
+    let p = c .before .before .before .before .before .before .before .before in
+    let r = p .before .before .before .before .before in
+    let h = rooms (r .before .before .before .before .before) in
+    let some = text.puts (r .row .ensures) (p .put .ensures) (h .1) in
+    text.room _ (text.puts some (c .before .before .before .before .terms .ensures) (h .2)) (r .before .before .before .before .before .pre .1)
 
 same-length : tie.Need-same-length
 same-length c = search needs
 
 returns : tie.Need-returns
 unfolding courseLine
-returns c = text.puts (text.puts (text.puts (c .before .before .before .before .before .before .before .before .before .before .before .before .before .before .before .before .row .ensures) (c .before .before .before .before .before .before .before .before .before .before .before .put .ensures) (rooms (c .before .before .before .before .before .before .before .before .before .before .before .before .before .before .before .before .before .before .before .before .before) .1)) (c .before .before .before .before .before .before .before .terms .ensures) (rooms (c .before .before .before .before .before .before .before .before .before .before .before .before .before .before .before .before .before .before .before .before .before) .2)) (c .before .before .put2 .ensures) (c .before .before .before .before .before .before .before .before .before .before .before .before .before .before .before .before .before .before .before .before .before .pre .1)
+returns c =
+    let t = c .before .before .before .before .before .before .before in
+    let p = t .before .before .before .before in
+    let r = p .before .before .before .before .before in
+    let h = rooms (r .before .before .before .before .before) in
+    let some = text.puts (r .row .ensures) (p .put .ensures) (h .1) in
+    text.puts (text.puts some (t .terms .ensures) (h .2)) (c .before .before .put2 .ensures) (r .before .before .before .before .before .pre .1)
 
 pub course-line-spec : {M : Type 1} → statement M
 course-line-spec =

@@ -2,13 +2,11 @@
 use Rattle.display.proofs.course_lines.Statement.{statement}
 use Rattle.display.proofs.course_lines.Tie as tie
 use borrow.Author.Needs.{needs}
-use Prim.Native.Nat.{ℕ, _≤_, _-_, _+_, _<_}
+use Prim.Native.Nat.{ℕ, _≤_, _-_}
 use mathlib.Core.Path.{_≡_, subst}
 use native.Mathlib.Omega.{arith}
-use lib.ListN.{length}
 use Rattle.text.specs.Put.{Put}
 use Rattle.text.proofs.TextLaws as text
-use Rattle.year.specs.Sound.{Sound}
 use Rattle.records.specs.Writing.{joined}
 use Rattle.records.proofs.LayLaws.{joined-more}
 use Rattle.display.specs.Listing.{courseLineAt}
@@ -30,7 +28,9 @@ element-copy-out-course-line : tie.Need-element-copy-out-course-line Inv-loop μ
 element-copy-out-course-line c = omega (arith, c .before .before .before .before .pre .0)
 
 course-line-requires : tie.Need-course-line-requires Inv-loop μ-loop
-course-line-requires c κs = let y = c .before .before .before .before .before .args .t3 in (omega (arith, c .before .before .before .before .before .pre .0), text.turn-room (joined (courseLineAt y)) (courseLineAt y) (y .courses) (λ k h. joined-more (courseLineAt y) k) (c .before .before .before .loop .i) (c .before .before .loop-test .taken) (c .before .before .before .before .before .pre .1) (c .before .before .before .loop .inv .1))
+course-line-requires c κs =
+    let y = c .before .before .before .before .before .args .t3 in
+    (omega (arith, c .before .before .before .before .before .pre .0), text.turn-room (joined (courseLineAt y)) (courseLineAt y) (y .courses) (λ k h. joined-more (courseLineAt y) k) (c .before .before .before .loop .i) (c .before .before .loop-test .taken) (c .before .before .before .before .before .pre .1) (c .before .before .before .loop .inv .1))
 
 add-i : tie.Need-add-i Inv-loop μ-loop
 add-i c = search needs
@@ -39,13 +39,19 @@ loop-less : tie.Need-loop-less Inv-loop μ-loop
 loop-less c = search needs
 
 loop-again : tie.Need-loop-again Inv-loop μ-loop
-loop-again c = let y = c .before .before .before .before .before .before .before .before .args .t3 in (search needs, text.turn (joined (courseLineAt y)) (courseLineAt y) (y .courses) (λ k h. joined-more (courseLineAt y) k) (c .before .before .before .before .before .before .loop .i) (c .before .before .before .before .before .loop-test .taken) (c .before .before .before .before .before .before .before .before .pre .1) (c .before .before .before .before .before .before .loop .inv .1) (c .before .before .course-line .ensures))
+loop-again c =
+    let y = c .before .before .before .before .before .before .before .before .args .t3 in
+    (search needs, text.turn (joined (courseLineAt y)) (courseLineAt y) (y .courses) (λ k h. joined-more (courseLineAt y) k) (c .before .before .before .before .before .before .loop .i) (c .before .before .before .before .before .loop-test .taken) (c .before .before .before .before .before .before .before .before .pre .1) (c .before .before .before .before .before .before .loop .inv .1) (c .before .before .course-line .ensures))
 
 same-length : tie.Need-same-length Inv-loop μ-loop
 same-length c = search (needs, c .before .loop .inv .1 .long)
 
 returns : tie.Need-returns Inv-loop μ-loop
-returns c = let a = c .before .before .before .args in let l = c .before .loop in let is : l .i ≡ a .t3 .courses = omega arith in subst (λ (k : ℕ). Put (a .buf .now) (a .at) (joined (courseLineAt (a .t3)) k) (l .buf) (l .end)) is (l .inv .1)
+returns c =
+    let a = c .before .before .before .args in
+    let l = c .before .loop in
+    let is : l .i ≡ a .t3 .courses = omega arith in
+    subst (λ (k : ℕ). Put (a .buf .now) (a .at) (joined (courseLineAt (a .t3)) k) (l .buf) (l .end)) is (l .inv .1)
 
 pub course-lines-spec : {M : Type 1} → statement M
 course-lines-spec =

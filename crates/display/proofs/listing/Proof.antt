@@ -2,18 +2,18 @@
 use borrow.Author.Needs.{needs}
 use Rattle.display.proofs.listing.Statement.{statement}
 use Rattle.display.proofs.listing.Tie as tie
-use Prim.Native.Nat.{ℕ, _≤_}
-use mathlib.Core.Path.{_≡_, sym}
+use Prim.Native.Nat.{_≤_}
+use mathlib.Core.Path.{sym}
 use native.Mathlib.Omega.{arith}
-use lib.ListN.{length, length-replicate}
+use lib.ListN.{length}
 use lib.Seq.{length-take-le}
-use Rattle.display.specs.Listing.{listingOf}
 use Rattle.display.proofs.ListingLaws as law
 use Rattle.display.proofs.LongestLaws.{longest}
 
 -- the text is within the page
 long : (c : tie.After-received) → c .received .result ≤ 3436
-long c = omega (arith, law.page-length (c .before .before .before .before .args .list .now) (c .received .ensures), longest (c .before .before .before .before .args .list .now))
+long c =
+    omega (arith, law.page-length (c .before .before .before .before .args .list .now) (c .received .ensures), longest (c .before .before .before .before .args .list .now))
 
 fits : (c : tie.After-received) → c .received .result ≤ length (c .received .last .0)
 fits c = omega (arith, long c, c .received .ensures .long)
@@ -25,7 +25,8 @@ received-requires : tie.Need-received-requires
 received-requires c κs = longest (c .before .before .before .args .list .now)
 
 returns : tie.Need-returns
-returns c = law.list-short (c .before .before .before .before .before .before .args .list .now) (c .before .before .received .ensures) (c .before .before .before .before .before .before .args .out .now) (c .if1 .taken)
+returns c =
+    law.list-short (c .before .before .before .before .before .before .args .list .now) (c .before .before .received .ensures) (c .before .before .before .before .before .before .args .out .now) (c .if1 .taken)
 
 array-share-prefix-page : tie.Need-array-share-prefix-page
 array-share-prefix-page c = omega (arith, long (c .before .before .before))
@@ -34,13 +35,15 @@ slice-aggregate-put : tie.Need-slice-aggregate-put
 slice-aggregate-put c = sym (length-take-le _ _ (fits (c .before .before .before .before)))
 
 put-requires : tie.Need-put-requires
-put-requires c κs = law.page-room (c .before .before .before .before .before .before .before .before .args .list .now) (c .before .before .before .before .received .ensures) (c .before .before .before .before .before .before .before .before .args .out .now) (c .before .before .if1 .left)
+put-requires c κs =
+    law.page-room (c .before .before .before .before .before .before .before .before .args .list .now) (c .before .before .before .before .received .ensures) (c .before .before .before .before .before .before .before .before .args .out .now) (c .before .before .if1 .left)
 
 same-length : tie.Need-same-length
 same-length c = search needs
 
 returns-2 : tie.Need-returns-2
-returns-2 c = law.list-done (c .before .before .before .before .before .before .before .before .before .before .before .args .list .now) (c .before .before .before .before .before .before .before .received .ensures) (c .before .before .before .before .before .before .before .before .before .before .before .args .out .now) _ _ (c .before .before .before .before .before .if1 .left) (c .before .before .put .ensures)
+returns-2 c =
+    law.list-done (c .before .before .before .before .before .before .before .before .before .before .before .args .list .now) (c .before .before .before .before .before .before .before .received .ensures) (c .before .before .before .before .before .before .before .before .before .before .before .args .out .now) _ _ (c .before .before .before .before .before .if1 .left) (c .before .before .put .ensures)
 
 pub listing-spec : {M : Type 1} → statement M
 listing-spec =

@@ -2,11 +2,7 @@
 use borrow.Author.Needs.{needs}
 use Rattle.display.proofs.received.Statement.{statement}
 use Rattle.display.proofs.received.Tie as tie
-use Prim.Native.Nat.{ℕ, _≤_}
-use mathlib.Core.List.{List}
-use mathlib.Core.Path.{subst, sym, ap, _∙_}
-use lib.ListN.{length}
-use Rattle.text.specs.Put.{Put}
+use mathlib.Core.Path.{refl, sym, ap, _∙_}
 use Rattle.records.specs.declared.Received.{Received}
 use Rattle.display.proofs.ListingLaws as law
 
@@ -17,7 +13,10 @@ enum-told : tie.Need-enum-told
 enum-told c = search needs
 
 filtered-requires : tie.Need-filtered-requires
-filtered-requires c κs = (law.received-sound (c .before .before .before .before .before .before .before .args .list .now) (c .before .before .before .before .read .result) (c .before .before .before .before .read .ensures) (c .before .enum-told .given .1), subst (λ (t : List ℕ). length t ≤ length (c .before .before .before .before .before .before .before .args .buf .now)) (law.received-by (c .before .before .before .before .before .before .before .args .list .now) (c .before .before .before .before .read .result) _ (c .before .before .before .before .read .ensures) (c .before .enum-told .given .1)) (c .before .before .before .before .before .before .before .pre))
+filtered-requires c κs =
+    let r = c .before .before .before .before in
+    let told = c .before .enum-told .given .1 in
+    (law.received-sound _ _ (r .read .ensures) told, law.received-room _ _ (r .read .ensures) _ told _ refl _ (r .before .before .before .pre))
 
 enum-known-a : tie.Need-enum-known-a
 enum-known-a c = search needs
@@ -32,19 +31,23 @@ cast-with-pair : tie.Need-cast-with-pair
 cast-with-pair c = record { fits = law.place-small _ _ _ (sym (ap (λ (r : Received). r .answer) (c .before .before .before .before .before .before .before .read .ensures)) ∙ c .before .before .before .before .a .given .1) }
 
 with-pair-requires : tie.Need-with-pair-requires
-with-pair-requires c κs = subst (λ (t : List ℕ). length t ≤ length (c .before .before .before .before .before .before .before .before .before .before .args .buf .now)) (law.refused-by (c .before .before .before .before .before .before .before .before .before .before .args .list .now) (c .before .before .before .before .before .before .before .read .result) _ _ _ (c .before .before .before .before .before .before .before .read .ensures) (c .before .before .before .before .a .given .1) (c .fault-number .ensures .0)) (c .before .before .before .before .before .before .before .before .before .before .pre)
+with-pair-requires c κs =
+    let r = c .before .before .before .before .before .before .before in
+    law.refused-room _ _ (r .read .ensures) _ _ _ (c .before .before .before .before .a .given .1) (c .fault-number .ensures .0) _ (r .before .before .before .pre)
 
 same-length : tie.Need-same-length
 same-length c = search needs
 
 returns : tie.Need-returns
-returns c = subst (λ (t : List ℕ). Put (c .before .before .before .before .before .before .before .before .before .before .args .buf .now) 0 t (c .before .before .filtered .last .0) (c .before .before .filtered .result)) (sym (law.received-by (c .before .before .before .before .before .before .before .before .before .before .args .list .now) (c .before .before .before .before .before .before .before .read .result) _ (c .before .before .before .before .before .before .before .read .ensures) (c .before .before .before .before .enum-told .given .1))) (c .before .before .filtered .ensures)
+returns c = law.received-put _ _ (c .before .before .before .before .before .before .before .read .ensures) _ (c .before .before .before .before .enum-told .given .1) _ refl _ _ _ (c .before .before .filtered .ensures)
 
 same-length-2 : tie.Need-same-length-2
 same-length-2 c = search needs
 
 returns-2 : tie.Need-returns-2
-returns-2 c = subst (λ (t : List ℕ). Put (c .before .before .before .before .before .before .before .before .before .before .before .before .before .args .buf .now) 0 t (c .before .before .with-pair .last .0) (c .before .before .with-pair .result)) (sym (law.refused-by (c .before .before .before .before .before .before .before .before .before .before .before .before .before .args .list .now) (c .before .before .before .before .before .before .before .before .before .before .read .result) _ _ _ (c .before .before .before .before .before .before .before .before .before .before .read .ensures) (c .before .before .before .before .before .before .before .a .given .1) (c .before .before .before .fault-number .ensures .0))) (c .before .before .with-pair .ensures)
+returns-2 c =
+    let number = c .before .before .before .fault-number .ensures .0 in
+    law.refused-put _ _ (c .before .before .before .before .before .before .before .before .before .before .read .ensures) _ _ _ (c .before .before .before .before .before .before .before .a .given .1) number _ _ _ (c .before .before .with-pair .ensures)
 
 pub received-spec : {M : Type 1} → statement M
 received-spec =

@@ -2,13 +2,11 @@
 use Rattle.display.proofs.term_lines.Statement.{statement}
 use Rattle.display.proofs.term_lines.Tie as tie
 use borrow.Author.Needs.{needs}
-use Prim.Native.Nat.{ℕ, _≤_, _-_, _+_, _<_}
+use Prim.Native.Nat.{ℕ, _≤_, _-_}
 use mathlib.Core.Path.{_≡_, subst}
 use native.Mathlib.Omega.{arith}
-use lib.ListN.{length}
 use Rattle.text.specs.Put.{Put}
 use Rattle.text.proofs.TextLaws as text
-use Rattle.year.specs.Sound.{Sound}
 use Rattle.records.specs.Writing.{joined}
 use Rattle.records.proofs.LayLaws.{joined-more}
 use Rattle.display.specs.Listing.{termLineAt}
@@ -30,7 +28,9 @@ element-copy-out-term-line : tie.Need-element-copy-out-term-line Inv-loop μ-loo
 element-copy-out-term-line c = omega (arith, c .before .before .before .before .pre .0)
 
 term-line-requires : tie.Need-term-line-requires Inv-loop μ-loop
-term-line-requires c κs = let y = c .before .before .before .before .before .args .t3 in (omega (arith, c .before .before .before .before .before .pre .0), text.turn-room (joined (termLineAt y)) (termLineAt y) (y .terms) (λ k h. joined-more (termLineAt y) k) (c .before .before .before .loop .j) (c .before .before .loop-test .taken) (c .before .before .before .before .before .pre .1) (c .before .before .before .loop .inv .1))
+term-line-requires c κs =
+    let y = c .before .before .before .before .before .args .t3 in
+    (omega (arith, c .before .before .before .before .before .pre .0), text.turn-room (joined (termLineAt y)) (termLineAt y) (y .terms) (λ k h. joined-more (termLineAt y) k) (c .before .before .before .loop .j) (c .before .before .loop-test .taken) (c .before .before .before .before .before .pre .1) (c .before .before .before .loop .inv .1))
 
 add-j : tie.Need-add-j Inv-loop μ-loop
 add-j c = search needs
@@ -39,13 +39,19 @@ loop-less : tie.Need-loop-less Inv-loop μ-loop
 loop-less c = search needs
 
 loop-again : tie.Need-loop-again Inv-loop μ-loop
-loop-again c = let y = c .before .before .before .before .before .before .before .before .args .t3 in (search needs, text.turn (joined (termLineAt y)) (termLineAt y) (y .terms) (λ k h. joined-more (termLineAt y) k) (c .before .before .before .before .before .before .loop .j) (c .before .before .before .before .before .loop-test .taken) (c .before .before .before .before .before .before .before .before .pre .1) (c .before .before .before .before .before .before .loop .inv .1) (c .before .before .term-line .ensures))
+loop-again c =
+    let y = c .before .before .before .before .before .before .before .before .args .t3 in
+    (search needs, text.turn (joined (termLineAt y)) (termLineAt y) (y .terms) (λ k h. joined-more (termLineAt y) k) (c .before .before .before .before .before .before .loop .j) (c .before .before .before .before .before .loop-test .taken) (c .before .before .before .before .before .before .before .before .pre .1) (c .before .before .before .before .before .before .loop .inv .1) (c .before .before .term-line .ensures))
 
 same-length : tie.Need-same-length Inv-loop μ-loop
 same-length c = search (needs, c .before .loop .inv .1 .long)
 
 returns : tie.Need-returns Inv-loop μ-loop
-returns c = let a = c .before .before .before .args in let l = c .before .loop in let is : l .j ≡ a .t3 .terms = omega arith in subst (λ (k : ℕ). Put (a .buf .now) (a .at) (joined (termLineAt (a .t3)) k) (l .buf) (l .end)) is (l .inv .1)
+returns c =
+    let a = c .before .before .before .args in
+    let l = c .before .loop in
+    let is : l .j ≡ a .t3 .terms = omega arith in
+    subst (λ (k : ℕ). Put (a .buf .now) (a .at) (joined (termLineAt (a .t3)) k) (l .buf) (l .end)) is (l .inv .1)
 
 pub term-lines-spec : {M : Type 1} → statement M
 term-lines-spec =

@@ -2,11 +2,10 @@
 use borrow.Author.Needs.{needs}
 use Rattle.text.proofs.number.Statement.{statement}
 use Rattle.text.proofs.number.Tie as tie
-use Prim.Native.Nat.{ℕ, _+_, _-_, _≤_}
+use Prim.Native.Nat.{ℕ, _+_, _≤_}
 use mathlib.Core.List.{List}
-use mathlib.Core.Path.{_≡_, sym, subst}
-use lib.ListN.{length, take, drop}
-use Rattle.text.specs.Text.{decimalOf}
+use mathlib.Core.Path.{sym, subst}
+use lib.ListN.{length}
 use Rattle.text.specs.Put.{Put}
 use Rattle.text.proofs.TextLaws.{part-is}
 

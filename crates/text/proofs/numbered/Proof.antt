@@ -17,7 +17,8 @@ same-length : tie.Need-same-length
 same-length c = search needs
 
 returns : tie.Need-returns
-returns c = law.puts (c .before .before .before .before .before .before .put .ensures) (c .before .before .number .ensures) (c .before .before .before .before .before .before .before .before .before .before .pre)
+returns c =
+    law.puts (c .before .before .before .before .before .before .put .ensures) (c .before .before .number .ensures) (c .before .before .before .before .before .before .before .before .before .before .pre)
 
 pub numbered-spec : {M : Type 1} → statement M
 numbered-spec =

@@ -32,7 +32,9 @@ shared-slice-read-numbered : tie.Need-shared-slice-read-numbered Inv-loop μ-loo
 shared-slice-read-numbered c = search needs
 
 numbered-requires : tie.Need-numbered-requires Inv-loop μ-loop
-numbered-requires c κs = let ns = c .before .before .before .before .before .before .args .ns .now in law.turn-room (law.firstNumbers ns) (law.nextNumber ns) (length ns) (law.numbers-more ns) (c .before .before .before .loop .k) (c .before .before .loop-test .taken) (fits (c .before .before .before .before .before .before)) (c .before .before .before .loop .inv .1)
+numbered-requires c κs =
+    let ns = c .before .before .before .before .before .before .args .ns .now in
+    law.turn-room (law.firstNumbers ns) (law.nextNumber ns) (length ns) (law.numbers-more ns) (c .before .before .before .loop .k) (c .before .before .loop-test .taken) (fits (c .before .before .before .before .before .before)) (c .before .before .before .loop .inv .1)
 
 add-k : tie.Need-add-k Inv-loop μ-loop
 add-k c = search needs
@@ -41,13 +43,18 @@ loop-less : tie.Need-loop-less Inv-loop μ-loop
 loop-less c = search needs
 
 loop-again : tie.Need-loop-again Inv-loop μ-loop
-loop-again c = let ns = c .before .before .before .before .before .before .before .before .before .args .ns .now in (search needs, law.turn (law.firstNumbers ns) (law.nextNumber ns) (length ns) (law.numbers-more ns) (c .before .before .before .before .before .before .loop .k) (c .before .before .before .before .before .loop-test .taken) (fits (c .before .before .before .before .before .before .before .before .before)) (c .before .before .before .before .before .before .loop .inv .1) (c .before .before .numbered .ensures))
+loop-again c =
+    let ns = c .before .before .before .before .before .before .before .before .before .args .ns .now in
+    (search needs, law.turn (law.firstNumbers ns) (law.nextNumber ns) (length ns) (law.numbers-more ns) (c .before .before .before .before .before .before .loop .k) (c .before .before .before .before .before .loop-test .taken) (fits (c .before .before .before .before .before .before .before .before .before)) (c .before .before .before .before .before .before .loop .inv .1) (c .before .before .numbered .ensures))
 
 same-length : tie.Need-same-length Inv-loop μ-loop
 same-length c = search (needs, c .before .loop .inv .1 .long)
 
 returns : tie.Need-returns Inv-loop μ-loop
-returns c = let a = c .before .before .before .before .args in let is : c .before .loop .k ≡ length (a .ns .now) = omega arith in subst (λ (t : List ℕ). Put (a .buf .now) (a .at) t (c .before .loop .buf) (c .before .loop .end)) (ap (law.firstNumbers (a .ns .now)) is ∙ law.numbers-all (a .ns .now)) (c .before .loop .inv .1)
+returns c =
+    let a = c .before .before .before .before .args in
+    let is : c .before .loop .k ≡ length (a .ns .now) = omega arith in
+    subst (λ (t : List ℕ). Put (a .buf .now) (a .at) t (c .before .loop .buf) (c .before .loop .end)) (ap (law.firstNumbers (a .ns .now)) is ∙ law.numbers-all (a .ns .now)) (c .before .loop .inv .1)
 
 pub numbers-spec : {M : Type 1} → statement M
 numbers-spec =

@@ -2,12 +2,11 @@
 use borrow.Author.Needs.{needs}
 use Rattle.text.proofs.piece.Statement.{statement}
 use Rattle.text.proofs.piece.Tie as tie
-use mathlib.Core.Bool.{true, false}
+use mathlib.Core.Bool.{true}
 use mathlib.Core.List.{_++_}
 use mathlib.Core.Path.{_≡_}
-use Prim.Native.Nat.{ℕ, _+_, _≤_}
+use Prim.Native.Nat.{_+_, _≤_}
 use lib.ListN.{length}
-use lib.Dec.{eqb}
 use borrow.Author.Tests.{eq-eqb, ne-eqb}
 use Rattle.theory.specs.Bits.{has}
 use Rattle.text.specs.Text.{decimalOf}
@@ -30,10 +29,14 @@ shr-if1 c = search needs
 
 returns : tie.Need-returns
 unfolding pieceOf
-returns c = let a = c .before .before .args in rw (ne-eqb _ _ (c .if1 .taken)) (law.put-nothing (a .buf .now) (a .at))
+returns c =
+    let a = c .before .before .args in
+    rw (ne-eqb _ _ (c .if1 .taken)) (law.put-nothing (a .buf .now) (a .at))
 
 comma-requires : tie.Need-comma-requires
-comma-requires c κs = let a = c .before .before .before .args in law.room-first (a .buf .now) (a .at) (commaOf (a .some)) (decimalOf (a .j)) (fits (c .before))
+comma-requires c κs =
+    let a = c .before .before .before .args in
+    law.room-first (a .buf .now) (a .at) (commaOf (a .some)) (decimalOf (a .j)) (fits (c .before))
 
 number-requires : tie.Need-number-requires
 number-requires c κs = law.room _ (c .before .before .before .comma .ensures) (fits (c .before .before .before .before .before))
@@ -43,7 +46,8 @@ same-length c = search needs
 
 returns-2 : tie.Need-returns-2
 unfolding pieceOf
-returns-2 c = rw (named (c .before .before .before .before .before .before .before .before)) (law.puts (c .before .before .before .before .before .before .comma .ensures) (c .before .before .number .ensures) (fits (c .before .before .before .before .before .before .before .before)))
+returns-2 c =
+    rw (named (c .before .before .before .before .before .before .before .before)) (law.puts (c .before .before .before .before .before .before .comma .ensures) (c .before .before .number .ensures) (fits (c .before .before .before .before .before .before .before .before)))
 
 pub piece-spec : {M : Type 1} → statement M
 piece-spec =

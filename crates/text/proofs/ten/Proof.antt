@@ -35,7 +35,8 @@ digit-requires-10 : tie.Need-digit-requires-10
 digit-requires-10 c κs = search needs
 
 returns : tie.Need-returns
-returns c = rw (c .digit10 .ensures, c .before .digit9 .ensures, c .before .before .digit8 .ensures, c .before .before .before .digit7 .ensures, c .before .before .before .before .digit6 .ensures, c .before .before .before .before .before .digit5 .ensures, c .before .before .before .before .before .before .digit4 .ensures, c .before .before .before .before .before .before .before .digit3 .ensures, c .before .before .before .before .before .before .before .before .digit2 .ensures, c .before .before .before .before .before .before .before .before .before .digit .ensures) refl
+returns c =
+    rw (c .digit10 .ensures, c .before .digit9 .ensures, c .before .before .digit8 .ensures, c .before .before .before .digit7 .ensures, c .before .before .before .before .digit6 .ensures, c .before .before .before .before .before .digit5 .ensures, c .before .before .before .before .before .before .digit4 .ensures, c .before .before .before .before .before .before .before .digit3 .ensures, c .before .before .before .before .before .before .before .before .digit2 .ensures, c .before .before .before .before .before .before .before .before .before .digit .ensures) refl
 
 pub ten-spec : {M : Type 1} → statement M
 ten-spec =

@@ -3,7 +3,6 @@ use Rattle.text.proofs.terms.Statement.{statement}
 use Rattle.text.proofs.terms.Tie as tie
 use borrow.Author.Needs.{needs}
 use mathlib.Core.Bool.{Bool, _||_}
-use mathlib.Core.List.{List}
 use mathlib.Core.Path.{_≡_, _∙_, ap, sym, subst, refl}
 use Prim.Native.Nat.{ℕ, _+_, _-_, _≤_}
 use native.Mathlib.Omega.{arith}
@@ -29,7 +28,10 @@ unfolding termsTo commasOf
 loop-holds c = (search needs, law.put-nothing (c .before .args .buf .now) (c .before .args .at), refl)
 
 piece-requires : tie.Need-piece-requires Inv-loop μ-loop
-piece-requires c κs = let a = c .before .before .before .before .args in let l = c .before .before .loop in (search needs, subst (λ (b : Bool). l .end + length (pieceOf b (a .list) (l .j)) ≤ length (l .buf)) (sym (l .inv .2)) (law.turn-room (law.textTo (a .list)) (law.nextTerm (a .list)) 16 (law.terms-more (a .list)) (l .j) (c .before .loop-test .taken) (fits (c .before .before .before .before)) (l .inv .1)))
+piece-requires c κs =
+    let a = c .before .before .before .before .args in
+    let l = c .before .before .loop in
+    (search needs, subst (λ (b : Bool). l .end + length (pieceOf b (a .list) (l .j)) ≤ length (l .buf)) (sym (l .inv .2)) (law.turn-room (law.textTo (a .list)) (law.nextTerm (a .list)) 16 (law.terms-more (a .list)) (l .j) (c .before .loop-test .taken) (fits (c .before .before .before .before)) (l .inv .1)))
 
 cast-some : tie.Need-cast-some Inv-loop μ-loop
 cast-some c = search needs
@@ -44,14 +46,21 @@ loop-less : tie.Need-loop-less Inv-loop μ-loop
 loop-less c = search needs
 
 loop-again : tie.Need-loop-again Inv-loop μ-loop
-loop-again c = let a = c .before .before .before .before .before .before .before .args in let l = c .before .before .before .before .before .loop in (search needs, law.turn (law.textTo (a .list)) (law.nextTerm (a .list)) 16 (law.terms-more (a .list)) (l .j) (c .before .before .before .before .loop-test .taken) (fits (c .before .before .before .before .before .before .before)) (l .inv .1) (subst (λ (b : Bool). Put (l .buf) (l .end) (pieceOf b (a .list) (l .j)) (c .before .before .piece .last .0) (c .before .before .piece .result)) (l .inv .2) (c .before .before .piece .ensures)), ap (λ (b : Bool). b || has (a .list) (l .j)) (l .inv .2) ∙ sym (law.some-more (a .list) (l .j)))
+loop-again c =
+    let a = c .before .before .before .before .before .before .before .args in
+    let l = c .before .before .before .before .before .loop in
+    (search needs, law.turn (law.textTo (a .list)) (law.nextTerm (a .list)) 16 (law.terms-more (a .list)) (l .j) (c .before .before .before .before .loop-test .taken) (fits (c .before .before .before .before .before .before .before)) (l .inv .1) (subst (λ (b : Bool). Put (l .buf) (l .end) (pieceOf b (a .list) (l .j)) (c .before .before .piece .last .0) (c .before .before .piece .result)) (l .inv .2) (c .before .before .piece .ensures)), ap (λ (b : Bool). b || has (a .list) (l .j)) (l .inv .2) ∙ sym (law.some-more (a .list) (l .j)))
 
 same-length : tie.Need-same-length Inv-loop μ-loop
 same-length c = search (needs, c .before .loop .inv .1 .long)
 
 returns : tie.Need-returns Inv-loop μ-loop
 unfolding termsOf
-returns c = let a = c .before .before .before .args in let l = c .before .loop in let is : l .j ≡ 16 = omega arith in subst (λ (k : ℕ). Put (a .buf .now) (a .at) (law.textTo (a .list) k) (l .buf) (l .end)) is (l .inv .1)
+returns c =
+    let a = c .before .before .before .args in
+    let l = c .before .loop in
+    let is : l .j ≡ 16 = omega arith in
+    subst (λ (k : ℕ). Put (a .buf .now) (a .at) (law.textTo (a .list) k) (l .buf) (l .end)) is (l .inv .1)
 
 pub terms-spec : {M : Type 1} → statement M
 terms-spec =
