@@ -11,7 +11,7 @@ use lib.Seq.{paste, take-length, take-paste}
 use borrow.Author.Tests.{le-leb, lt-leb}
 use Rattle.text.specs.Text.{newline, blank, rowOf, lineOf, termsOf}
 use Rattle.text.specs.Put.{Put}
-use Rattle.text.proofs.TextLaws.{room-first}
+use Rattle.text.proofs.TextLaws.{room-first, turn-room, turn}
 use Rattle.year.specs.Sound.{Sound}
 use Rattle.year.specs.declared.Course.{Course}
 use Rattle.year.specs.declared.Year.{Year}
@@ -23,6 +23,7 @@ use Rattle.records.specs.declared.Reading.{Reading}
 use Rattle.records.specs.declared.Reading.the-variants as reading
 use Rattle.records.specs.declared.Received.{Received}
 use Rattle.records.proofs.ListLaws.{FirstFault, list-refused, read-front, read-sound}
+use Rattle.records.proofs.LayLaws.{joined-more}
 use Rattle.filter.specs.Filter.{filterOf}
 use Rattle.filter.specs.declared.Answer.{Answer}
 use Rattle.filter.specs.declared.Filtered.{Filtered}
@@ -65,6 +66,15 @@ year-rooms d word n y h =
     let all : 0 + length (p ++ t ++ joined (courseLineAt y) (y .courses)) ≤ length d = omega arith in
     let two = room-first d 0 (p ++ t) (joined (courseLineAt y) (y .courses)) all in
     (room-first d 0 p t two, two, all)
+
+-- ---- lines in a row: the next has room, and with it the row is one longer
+
+module _ (line : ℕ → List ℕ) (n : ℕ) where
+  pub line-room : {d d′ : List ℕ} {at r : ℕ} (k : ℕ) → k < n → at + length (joined line n) ≤ length d → Put d at (joined line k) d′ r → r + length (line k) ≤ length d′
+  line-room k = turn-room (joined line) line n (λ i h. joined-more line i) k
+
+  pub line-turn : {d d′ d″ : List ℕ} {at r r′ : ℕ} (k : ℕ) → k < n → at + length (joined line n) ≤ length d → Put d at (joined line k) d′ r → Put d′ r (line k) d″ r′ → Put d at (joined line (k + 1)) d″ r′
+  line-turn k = turn (joined line) line n (λ i h. joined-more line i) k
 
 -- ---- answers
 

@@ -6,10 +6,10 @@ use Prim.Native.Nat.{ℕ, _≤_, _-_}
 use mathlib.Core.Path.{_≡_, subst}
 use native.Mathlib.Omega.{arith}
 use Rattle.text.specs.Put.{Put}
-use Rattle.text.proofs.TextLaws as text
+use Rattle.text.proofs.TextLaws.{put-nothing}
 use Rattle.records.specs.Writing.{joined}
-use Rattle.records.proofs.LayLaws.{joined-more}
 use Rattle.display.specs.Listing.{courseLineAt}
+use Rattle.display.proofs.ListingLaws as law
 
 abbrev Inv-loop : tie.InvT-loop
 Inv-loop buf₀ at y end₀ i₀ i-end buf end i = (i ≤ y .courses) × Put buf₀ at (joined (courseLineAt y) i) buf end
@@ -19,7 +19,7 @@ abbrev μ-loop : tie.MeasureT-loop
 
 loop-holds : tie.Need-loop-holds Inv-loop μ-loop
 unfolding joined
-loop-holds c = (search needs, text.put-nothing (c .before .args .buf .now) (c .before .args .at))
+loop-holds c = (search needs, put-nothing (c .before .args .buf .now) (c .before .args .at))
 
 mul-course-line : tie.Need-mul-course-line Inv-loop μ-loop
 mul-course-line c = omega (arith, c .before .before .before .before .pre .0)
@@ -29,8 +29,10 @@ element-copy-out-course-line c = omega (arith, c .before .before .before .before
 
 course-line-requires : tie.Need-course-line-requires Inv-loop μ-loop
 course-line-requires c κs =
-    let y = c .before .before .before .before .before .args .t3 in
-    (omega (arith, c .before .before .before .before .before .pre .0), text.turn-room (joined (courseLineAt y)) (courseLineAt y) (y .courses) (λ k h. joined-more (courseLineAt y) k) (c .before .before .before .loop .i) (c .before .before .loop-test .taken) (c .before .before .before .before .before .pre .1) (c .before .before .before .loop .inv .1))
+    let l = c .before .before .before in
+    let b = l .before .before in
+    let y = b .args .t3 in
+    (omega (arith, b .pre .0), law.line-room (courseLineAt y) (y .courses) (l .loop .i) (c .before .before .loop-test .taken) (b .pre .1) (l .loop .inv .1))
 
 add-i : tie.Need-add-i Inv-loop μ-loop
 add-i c = search needs
@@ -40,8 +42,10 @@ loop-less c = search needs
 
 loop-again : tie.Need-loop-again Inv-loop μ-loop
 loop-again c =
-    let y = c .before .before .before .before .before .before .before .before .args .t3 in
-    (search needs, text.turn (joined (courseLineAt y)) (courseLineAt y) (y .courses) (λ k h. joined-more (courseLineAt y) k) (c .before .before .before .before .before .before .loop .i) (c .before .before .before .before .before .loop-test .taken) (c .before .before .before .before .before .before .before .before .pre .1) (c .before .before .before .before .before .before .loop .inv .1) (c .before .before .course-line .ensures))
+    let l = c .before .before .before .before .before .before in
+    let b = l .before .before in
+    let y = b .args .t3 in
+    (search needs, law.line-turn (courseLineAt y) (y .courses) (l .loop .i) (c .before .before .before .before .before .loop-test .taken) (b .pre .1) (l .loop .inv .1) (c .before .before .course-line .ensures))
 
 same-length : tie.Need-same-length Inv-loop μ-loop
 same-length c = search (needs, c .before .loop .inv .1 .long)

@@ -13,7 +13,8 @@ use Rattle.display.proofs.LongestLaws.{longest}
 -- the text is within the page
 long : (c : tie.After-received) → c .received .result ≤ 3436
 long c =
-    omega (arith, law.page-length (c .before .before .before .before .args .list .now) (c .received .ensures), longest (c .before .before .before .before .args .list .now))
+    let s = c .before .before .before .before .args .list .now in
+    omega (arith, law.page-length s (c .received .ensures), longest s)
 
 fits : (c : tie.After-received) → c .received .result ≤ length (c .received .last .0)
 fits c = omega (arith, long c, c .received .ensures .long)
@@ -26,7 +27,9 @@ received-requires c κs = longest (c .before .before .before .args .list .now)
 
 returns : tie.Need-returns
 returns c =
-    law.list-short (c .before .before .before .before .before .before .args .list .now) (c .before .before .received .ensures) (c .before .before .before .before .before .before .args .out .now) (c .if1 .taken)
+    let p = c .before .before in
+    let a = p .before .before .before .before .args in
+    law.list-short (a .list .now) (p .received .ensures) (a .out .now) (c .if1 .taken)
 
 array-share-prefix-page : tie.Need-array-share-prefix-page
 array-share-prefix-page c = omega (arith, long (c .before .before .before))
@@ -36,14 +39,18 @@ slice-aggregate-put c = sym (length-take-le _ _ (fits (c .before .before .before
 
 put-requires : tie.Need-put-requires
 put-requires c κs =
-    law.page-room (c .before .before .before .before .before .before .before .before .args .list .now) (c .before .before .before .before .received .ensures) (c .before .before .before .before .before .before .before .before .args .out .now) (c .before .before .if1 .left)
+    let p = c .before .before .before .before in
+    let a = p .before .before .before .before .args in
+    law.page-room (a .list .now) (p .received .ensures) (a .out .now) (c .before .before .if1 .left)
 
 same-length : tie.Need-same-length
 same-length c = search needs
 
 returns-2 : tie.Need-returns-2
 returns-2 c =
-    law.list-done (c .before .before .before .before .before .before .before .before .before .before .before .args .list .now) (c .before .before .before .before .before .before .before .received .ensures) (c .before .before .before .before .before .before .before .before .before .before .before .args .out .now) _ _ (c .before .before .before .before .before .if1 .left) (c .before .before .put .ensures)
+    let p = c .before .before .before .before .before .before .before in
+    let a = p .before .before .before .before .args in
+    law.list-done (a .list .now) (p .received .ensures) (a .out .now) _ _ (c .before .before .before .before .before .if1 .left) (c .before .before .put .ensures)
 
 pub listing-spec : {M : Type 1} → statement M
 listing-spec =

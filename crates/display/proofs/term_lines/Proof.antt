@@ -6,10 +6,10 @@ use Prim.Native.Nat.{ℕ, _≤_, _-_}
 use mathlib.Core.Path.{_≡_, subst}
 use native.Mathlib.Omega.{arith}
 use Rattle.text.specs.Put.{Put}
-use Rattle.text.proofs.TextLaws as text
+use Rattle.text.proofs.TextLaws.{put-nothing}
 use Rattle.records.specs.Writing.{joined}
-use Rattle.records.proofs.LayLaws.{joined-more}
 use Rattle.display.specs.Listing.{termLineAt}
+use Rattle.display.proofs.ListingLaws as law
 
 abbrev Inv-loop : tie.InvT-loop
 Inv-loop buf₀ at y end₀ j₀ j-end buf end j = (j ≤ y .terms) × Put buf₀ at (joined (termLineAt y) j) buf end
@@ -19,7 +19,7 @@ abbrev μ-loop : tie.MeasureT-loop
 
 loop-holds : tie.Need-loop-holds Inv-loop μ-loop
 unfolding joined
-loop-holds c = (search needs, text.put-nothing (c .before .args .buf .now) (c .before .args .at))
+loop-holds c = (search needs, put-nothing (c .before .args .buf .now) (c .before .args .at))
 
 mul-term-line : tie.Need-mul-term-line Inv-loop μ-loop
 mul-term-line c = omega (arith, c .before .before .before .before .pre .0)
@@ -29,8 +29,10 @@ element-copy-out-term-line c = omega (arith, c .before .before .before .before .
 
 term-line-requires : tie.Need-term-line-requires Inv-loop μ-loop
 term-line-requires c κs =
-    let y = c .before .before .before .before .before .args .t3 in
-    (omega (arith, c .before .before .before .before .before .pre .0), text.turn-room (joined (termLineAt y)) (termLineAt y) (y .terms) (λ k h. joined-more (termLineAt y) k) (c .before .before .before .loop .j) (c .before .before .loop-test .taken) (c .before .before .before .before .before .pre .1) (c .before .before .before .loop .inv .1))
+    let l = c .before .before .before in
+    let b = l .before .before in
+    let y = b .args .t3 in
+    (omega (arith, b .pre .0), law.line-room (termLineAt y) (y .terms) (l .loop .j) (c .before .before .loop-test .taken) (b .pre .1) (l .loop .inv .1))
 
 add-j : tie.Need-add-j Inv-loop μ-loop
 add-j c = search needs
@@ -40,8 +42,10 @@ loop-less c = search needs
 
 loop-again : tie.Need-loop-again Inv-loop μ-loop
 loop-again c =
-    let y = c .before .before .before .before .before .before .before .before .args .t3 in
-    (search needs, text.turn (joined (termLineAt y)) (termLineAt y) (y .terms) (λ k h. joined-more (termLineAt y) k) (c .before .before .before .before .before .before .loop .j) (c .before .before .before .before .before .loop-test .taken) (c .before .before .before .before .before .before .before .before .pre .1) (c .before .before .before .before .before .before .loop .inv .1) (c .before .before .term-line .ensures))
+    let l = c .before .before .before .before .before .before in
+    let b = l .before .before in
+    let y = b .args .t3 in
+    (search needs, law.line-turn (termLineAt y) (y .terms) (l .loop .j) (c .before .before .before .before .before .loop-test .taken) (b .pre .1) (l .loop .inv .1) (c .before .before .term-line .ensures))
 
 same-length : tie.Need-same-length Inv-loop μ-loop
 same-length c = search (needs, c .before .loop .inv .1 .long)

@@ -18,11 +18,14 @@ line-requires c κs = rooms (c .before .before .before .before) .0
 
 term-lines-requires : tie.Need-term-lines-requires
 term-lines-requires c κs =
-    (c .before .before .before .before .before .before .before .before .pre .0, text.room _ (c .before .before .before .line .ensures) (rooms (c .before .before .before .before .before .before .before .before) .1))
+    let b = c .before .before .before .before .before .before .before .before in
+    (b .pre .0, text.room _ (c .before .before .before .line .ensures) (rooms b .1))
 
 course-lines-requires : tie.Need-course-lines-requires
 course-lines-requires c κs =
-    (c .before .before .before .before .before .before .before .before .before .before .before .before .pre .0, text.room _ (text.puts (c .before .before .before .before .before .before .before .line .ensures) (c .before .before .before .term-lines .ensures) (rooms (c .before .before .before .before .before .before .before .before .before .before .before .before) .1)) (rooms (c .before .before .before .before .before .before .before .before .before .before .before .before) .2))
+    let l = c .before .before .before .before .before .before .before in
+    let b = l .before .before .before .before .before in
+    (b .pre .0, text.room _ (text.puts (l .line .ensures) (c .before .before .before .term-lines .ensures) (rooms b .1)) (rooms b .2))
 
 same-length : tie.Need-same-length
 same-length c = search needs
@@ -30,8 +33,9 @@ same-length c = search needs
 returns : tie.Need-returns
 unfolding yearText
 returns c =
-    let h = rooms (c .before .before .before .before .before .before .before .before .before .before .before .before .before .before .before) in
-    text.puts (text.puts (c .before .before .before .before .before .before .before .before .before .before .line .ensures) (c .before .before .before .before .before .before .term-lines .ensures) (h .1)) (c .before .before .course-lines .ensures) (h .2)
+    let l = c .before .before .before .before .before .before .before .before .before .before in
+    let h = rooms (l .before .before .before .before .before) in
+    text.puts (text.puts (l .line .ensures) (c .before .before .before .before .before .before .term-lines .ensures) (h .1)) (c .before .before .course-lines .ensures) (h .2)
 
 pub with-year-spec : {M : Type 1} → statement M
 with-year-spec =

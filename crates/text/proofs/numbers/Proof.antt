@@ -33,8 +33,10 @@ shared-slice-read-numbered c = search needs
 
 numbered-requires : tie.Need-numbered-requires Inv-loop μ-loop
 numbered-requires c κs =
-    let ns = c .before .before .before .before .before .before .args .ns .now in
-    law.turn-room (law.firstNumbers ns) (law.nextNumber ns) (length ns) (law.numbers-more ns) (c .before .before .before .loop .k) (c .before .before .loop-test .taken) (fits (c .before .before .before .before .before .before)) (c .before .before .before .loop .inv .1)
+    let l = c .before .before .before in
+    let b = l .before .before .before in
+    let ns = b .args .ns .now in
+    law.turn-room (law.firstNumbers ns) (law.nextNumber ns) (length ns) (law.numbers-more ns) (l .loop .k) (c .before .before .loop-test .taken) (fits b) (l .loop .inv .1)
 
 add-k : tie.Need-add-k Inv-loop μ-loop
 add-k c = search needs
@@ -44,8 +46,11 @@ loop-less c = search needs
 
 loop-again : tie.Need-loop-again Inv-loop μ-loop
 loop-again c =
-    let ns = c .before .before .before .before .before .before .before .before .before .args .ns .now in
-    (search needs, law.turn (law.firstNumbers ns) (law.nextNumber ns) (length ns) (law.numbers-more ns) (c .before .before .before .before .before .before .loop .k) (c .before .before .before .before .before .loop-test .taken) (fits (c .before .before .before .before .before .before .before .before .before)) (c .before .before .before .before .before .before .loop .inv .1) (c .before .before .numbered .ensures))
+    let l = c .before .before .before .before .before .before in
+    let b = l .before .before .before in
+    let ns = b .args .ns .now in
+    let next = law.turn (law.firstNumbers ns) (law.nextNumber ns) (length ns) (law.numbers-more ns) (l .loop .k) in
+    (search needs, next (c .before .before .before .before .before .loop-test .taken) (fits b) (l .loop .inv .1) (c .before .before .numbered .ensures))
 
 same-length : tie.Need-same-length Inv-loop μ-loop
 same-length c = search (needs, c .before .loop .inv .1 .long)
@@ -53,8 +58,10 @@ same-length c = search (needs, c .before .loop .inv .1 .long)
 returns : tie.Need-returns Inv-loop μ-loop
 returns c =
     let a = c .before .before .before .before .args in
-    let is : c .before .loop .k ≡ length (a .ns .now) = omega arith in
-    subst (λ (t : List ℕ). Put (a .buf .now) (a .at) t (c .before .loop .buf) (c .before .loop .end)) (ap (law.firstNumbers (a .ns .now)) is ∙ law.numbers-all (a .ns .now)) (c .before .loop .inv .1)
+    let l = c .before .loop in
+    let is : l .k ≡ length (a .ns .now) = omega arith in
+    let all = ap (law.firstNumbers (a .ns .now)) is ∙ law.numbers-all (a .ns .now) in
+    subst (λ (t : List ℕ). Put (a .buf .now) (a .at) t (l .buf) (l .end)) all (l .inv .1)
 
 pub numbers-spec : {M : Type 1} → statement M
 numbers-spec =

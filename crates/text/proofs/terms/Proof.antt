@@ -29,9 +29,11 @@ loop-holds c = (search needs, law.put-nothing (c .before .args .buf .now) (c .be
 
 piece-requires : tie.Need-piece-requires Inv-loop μ-loop
 piece-requires c κs =
-    let a = c .before .before .before .before .args in
+    let b = c .before .before .before .before in
+    let t = b .args .list in
     let l = c .before .before .loop in
-    (search needs, subst (λ (b : Bool). l .end + length (pieceOf b (a .list) (l .j)) ≤ length (l .buf)) (sym (l .inv .2)) (law.turn-room (law.textTo (a .list)) (law.nextTerm (a .list)) 16 (law.terms-more (a .list)) (l .j) (c .before .loop-test .taken) (fits (c .before .before .before .before)) (l .inv .1)))
+    let next = law.turn-room (law.textTo t) (law.nextTerm t) 16 (law.terms-more t) (l .j) (c .before .loop-test .taken) (fits b) (l .inv .1) in
+    (search needs, subst (λ (x : Bool). l .end + length (pieceOf x t (l .j)) ≤ length (l .buf)) (sym (l .inv .2)) next)
 
 cast-some : tie.Need-cast-some Inv-loop μ-loop
 cast-some c = search needs
@@ -47,9 +49,13 @@ loop-less c = search needs
 
 loop-again : tie.Need-loop-again Inv-loop μ-loop
 loop-again c =
-    let a = c .before .before .before .before .before .before .before .args in
+    let b = c .before .before .before .before .before .before .before in
+    let t = b .args .list in
     let l = c .before .before .before .before .before .loop in
-    (search needs, law.turn (law.textTo (a .list)) (law.nextTerm (a .list)) 16 (law.terms-more (a .list)) (l .j) (c .before .before .before .before .loop-test .taken) (fits (c .before .before .before .before .before .before .before)) (l .inv .1) (subst (λ (b : Bool). Put (l .buf) (l .end) (pieceOf b (a .list) (l .j)) (c .before .before .piece .last .0) (c .before .before .piece .result)) (l .inv .2) (c .before .before .piece .ensures)), ap (λ (b : Bool). b || has (a .list) (l .j)) (l .inv .2) ∙ sym (law.some-more (a .list) (l .j)))
+    let p = c .before .before .piece in
+    let put = subst (λ (x : Bool). Put (l .buf) (l .end) (pieceOf x t (l .j)) (p .last .0) (p .result)) (l .inv .2) (p .ensures) in
+    let next = law.turn (law.textTo t) (law.nextTerm t) 16 (law.terms-more t) (l .j) (c .before .before .before .before .loop-test .taken) (fits b) (l .inv .1) put in
+    (search needs, next, ap (λ (x : Bool). x || has t (l .j)) (l .inv .2) ∙ sym (law.some-more t (l .j)))
 
 same-length : tie.Need-same-length Inv-loop μ-loop
 same-length c = search (needs, c .before .loop .inv .1 .long)
