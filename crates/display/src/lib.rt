@@ -20,7 +20,7 @@ pub enum Listed {
     Short,
 }
 
-// No text is longer.
+// No text is longer, so a buffer of as many bytes is never too short.
 pub const LONGEST: usize = 3436;
 
 // The paper's number of a year that is not sound.
@@ -139,7 +139,7 @@ pub fn listing(list: &[u8], out: &mut [u8]) -> Listed
     Listed::Done(n)
 }
 
-// The front part of a buffer that holds the text.
+// The part of a buffer that holds the text, by the answer that its listing gave.
 pub fn front<'a>(out: &'a [u8], a: Listed) -> &'a [u8]
     ensures { λ r. ⌜ now r ≡ take (listedLength a) (now (out .entry)) ⌝ }
 {

@@ -1,4 +1,4 @@
-// Text into a lent buffer: bytes, numbers in decimal, lines, and terms with commas. Each writes from a place on and gives the place behind.
+// Text into a lent buffer: bytes, numbers in decimal, lines, and terms with commas. Each is written from a place on; the result is the place behind it.
 ghost use mathlib.Core.Path.{_≡_};
 ghost use Prim.Native.Nat.{_+_, _<_, _≤_};
 ghost use lib.ListN.{length};
@@ -156,7 +156,7 @@ fn piece(buf: &mut [u8], at: usize, some: bool, list: u16, j: u32) -> usize
     number(buf, a, j)
 }
 
-// The terms of a list, with commas between them.
+// The terms of a list, a bit each, with commas between them.
 pub fn terms(buf: &mut [u8], at: usize, list: u16) -> usize
     requires { ⌜ at + length (termsOf list) ≤ length (now buf) ⌝ }
     ensures { λ r. ⌜ Put (now (buf .entry)) at (termsOf list) (now (buf .exit)) r ⌝ }
