@@ -1,4 +1,4 @@
-// Lists each file that an argument names, each under its name.
+// Writes the listing of each file that an argument names, each under its name.
 fn one(i: usize) {
     let mut name = io::buffer();
     let k = os::arg(i, &mut name);
@@ -12,7 +12,9 @@ fn one(i: usize) {
     let mut buf = io::buffer();
     let n = io::read_full(fd, &mut buf);
     libc::close(fd);
-    display::show(&buf[..n]);
+    let mut out = [0u8; display::LONGEST];
+    let a = display::listing(&buf[..n], &mut out);
+    io::write_all(1, display::front(&out, a));
 }
 
 fn main() {

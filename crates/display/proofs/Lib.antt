@@ -1,0 +1,3 @@
+-- Laws about the listing.
+pub mod ListingLaws
+pub mod LongestLaws

@@ -1,0 +1,3 @@
+-- Laws about texts.
+pub mod TextLaws
+pub mod LengthLaws
