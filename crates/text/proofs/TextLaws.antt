@@ -119,10 +119,6 @@ commas-append (m ∷ k ∷ ns) n =
     ap (λ (t : List ℕ). (decimalOf m ++ comma) ++ t) (commas-append (k ∷ ns) n)
     ∙ sym (append-assoc (decimalOf m ++ comma) (commasOf (k ∷ ns)) (comma ++ decimalOf n))
 
-some-append : (ns : List ℕ) (n : ℕ) → someOf (ns ++ n ∷ []) ≡ true
-some-append [] n = refl
-some-append (m ∷ ns) n = refl
-
 -- the text of the terms below j, and what term j adds
 abbrev pub textTo : ℕ → ℕ → List ℕ
 textTo l j = commasOf (termsTo l j)
