@@ -4,7 +4,7 @@ use mathlib.Core.List.{List, [], _∷_, _++_}
 use lib.Dec.{leb}
 use lib.ListN.{length, drop}
 use Rattle.theory.specs.Choice.{choose}
-use Rattle.text.specs.Text.{newline, blank, rowOf, lineOf, termsOf}
+use Rattle.text.specs.Text.{bytes, newline, blank, rowOf, lineOf, termsOf}
 use Rattle.year.specs.Year.{termAt, courseAt}
 use Rattle.year.specs.declared.Term.{Term}
 use Rattle.year.specs.declared.Course.{Course}
@@ -25,24 +25,23 @@ use Rattle.display.specs.declared.Listed.the-variants.{Done, Short}
 
 -- ---- words
 
--- SETTLED, OPEN, NOPLAN, REFUSED, T and C
 abbrev pub settledWord : List ℕ
-settledWord = 83 ∷ 69 ∷ 84 ∷ 84 ∷ 76 ∷ 69 ∷ 68 ∷ []
+settledWord = bytes "SETTLED"
 
 abbrev pub openWord : List ℕ
-openWord = 79 ∷ 80 ∷ 69 ∷ 78 ∷ []
+openWord = bytes "OPEN"
 
 abbrev pub noPlanWord : List ℕ
-noPlanWord = 78 ∷ 79 ∷ 80 ∷ 76 ∷ 65 ∷ 78 ∷ []
+noPlanWord = bytes "NOPLAN"
 
 abbrev pub refusedWord : List ℕ
-refusedWord = 82 ∷ 69 ∷ 70 ∷ 85 ∷ 83 ∷ 69 ∷ 68 ∷ []
+refusedWord = bytes "REFUSED"
 
 abbrev pub termWord : List ℕ
-termWord = 84 ∷ []
+termWord = bytes "T"
 
 abbrev pub courseWord : List ℕ
-courseWord = 67 ∷ []
+courseWord = bytes "C"
 
 -- ---- a year
 

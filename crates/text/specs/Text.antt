@@ -1,21 +1,29 @@
 -- Text as a list of bytes: numbers in decimal, lines of a word and numbers, and the terms of a list with commas.
 use Prim.Native.Nat.{ℕ, zero, suc, _+_, _-_, _/_, _%_}
+use Prim.Native.Char.{code}
+use Prim.Native.String.{String}
+use Prim.Native.String as string
 use mathlib.Core.List.{List, [], _∷_, _++_}
 use lib.Dec.{ltb}
 use lib.ListN.{drop}
 use Rattle.theory.specs.Bits.{has}
 use Rattle.theory.specs.Choice.{choose}
 
--- ---- marks
+-- ---- plain text
+
+-- the bytes of a text in plain letters, one for each
+abbrev pub bytes : String → List ℕ
+bytes string.[] = []
+bytes (string._∷_ c s) = code c ∷ bytes s
 
 abbrev pub newline : List ℕ
-newline = 10 ∷ []
+newline = bytes "\n"
 
 abbrev pub blank : List ℕ
-blank = 32 ∷ []
+blank = bytes " "
 
 abbrev pub comma : List ℕ
-comma = 44 ∷ []
+comma = bytes ","
 
 -- ---- numbers
 

@@ -1,4 +1,5 @@
 // Text into a lent buffer: bytes, numbers in decimal, lines, and terms with commas. Each is written from a place on; the result is the place behind it.
+use year::Year;
 ghost use mathlib.Core.Path.{_≡_};
 ghost use Prim.Native.Nat.{_+_, _<_, _≤_};
 ghost use lib.ListN.{length};
@@ -144,7 +145,7 @@ fn comma(buf: &mut [u8], at: usize, some: bool) -> usize
 }
 
 // Term j, where the list names it.
-fn piece(buf: &mut [u8], at: usize, some: bool, list: u16, j: u32) -> usize
+fn piece(buf: &mut [u8], at: usize, some: bool, list: u16, j: usize) -> usize
     requires { ⌜ j < 16 ⌝ }
     requires { ⌜ at + length (pieceOf some list j) ≤ length (now buf) ⌝ }
     ensures { λ r. ⌜ Put (now (buf .entry)) at (pieceOf some list j) (now (buf .exit)) r ⌝ }
@@ -153,7 +154,7 @@ fn piece(buf: &mut [u8], at: usize, some: bool, list: u16, j: u32) -> usize
         return at;
     }
     let a = comma(buf, at, some);
-    number(buf, a, j)
+    number(buf, a, j as u32)
 }
 
 // The terms of a list, a bit each, with commas between them.
@@ -163,7 +164,7 @@ pub fn terms(buf: &mut [u8], at: usize, list: u16) -> usize
 {
     let mut end = at;
     let mut some = false;
-    for j in 0..16u32 {
+    for j in 0..Year::TERMS {
         end = piece(buf, end, some, list, j);
         some = some | ((list >> j) % 2 == 1);
     }

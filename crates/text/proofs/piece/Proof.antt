@@ -38,6 +38,9 @@ comma-requires c κs =
     let a = c .before .before .before .args in
     law.room-first (a .buf .now) (a .at) (commaOf (a .some)) (decimalOf (a .j)) (fits (c .before))
 
+cast-number : tie.Need-cast-number
+cast-number c = search needs
+
 number-requires : tie.Need-number-requires
 number-requires c κs = law.room _ (c .before .before .before .comma .ensures) (fits (c .before .before .before .before .before))
 
@@ -52,4 +55,4 @@ returns-2 c =
 pub piece-spec : {M : Type 1} → statement M
 piece-spec =
     tie.close
-    (tie.spec cast-if1 shr-if1 returns comma-requires number-requires same-length returns-2)
+    (tie.spec cast-if1 shr-if1 returns comma-requires cast-number number-requires same-length returns-2)
