@@ -1,14 +1,10 @@
 -- Values that answers carry are small: the place of a refused record, and an imbalance.
-use Prim.Native.Nat.{ℕ, zero, suc, _/_, _%_, _≤_, _<_}
-use mathlib.Core.Bool.{Bool, true, false, not, _||_}
+use Prim.Native.Nat.{ℕ, zero, suc, _≤_, _<_}
+use mathlib.Core.Bool.{Bool, true, false}
 use mathlib.Core.List.{List}
 use mathlib.Core.Path.{_≡_, refl, ap}
 use native.Mathlib.Omega.{arith}
-use lib.Dec.{eqb, ltb}
-use lib.ListN.{length}
-use borrow.Author.Tests.{ltb-false}
 use Rattle.theory.specs.Choice.{choose}
-use Rattle.theory.proofs.TestLaws.{or-false}
 use Rattle.year.specs.Sound.{isSound, Sound}
 use Rattle.year.specs.Sums.{fixedCredits}
 use Rattle.theory.specs.Largest.{largest}
@@ -19,25 +15,14 @@ use Rattle.year.proofs.SumLaws.{all-credits-le, possible-le}
 use Rattle.year.specs.declared.Year.{Year}
 use Rattle.year.specs.declared.Measured.the-variants.{Imbalance, Unsound, Unsettled}
 use Rattle.records.specs.declared.Fault.{Fault}
-use Rattle.records.specs.declared.Fault.the-variants as fault
 use Rattle.records.specs.declared.Reading.{Reading}
 use Rattle.records.specs.declared.Reading.the-variants.{Done, Refused}
 use Rattle.records.specs.Numbers.{readingPlace}
-use Rattle.records.specs.Reading.{refused, readTo, badLength, readList}
-use Rattle.records.proofs.ListLaws.{first-fault}
+use Rattle.records.specs.Reading.{refused, readList}
+use Rattle.records.proofs.ListLaws.{place-few}
 
--- a list has 80 records at most
 pub place-small : (s : List ℕ) (f : Fault) (k : ℕ) → readList s .answer ≡ Refused f k → k < 4294967296
-unfolding readList
-place-small s f k e = go (badLength (length s)) refl e
-  where
-    go : (b : Bool) → badLength (length s) ≡ b → choose b (refused fault.Length 0) (readTo s (length s / 16)) .answer ≡ Refused f k → k < 4294967296
-    go true p e = let z : 0 ≡ k = ap readingPlace e in omega arith
-    go false p e =
-        let q = or-false (eqb (length s) 0 || ltb 1280 (length s)) (not (eqb (length s % 16) 0)) p in
-        let most : length s ≤ 1280 = ltb-false _ _ (or-false (eqb (length s) 0) (ltb 1280 (length s)) (q .0) .1) in
-        let r = first-fault s (length s / 16) f k e in
-        omega (arith, r .0)
+place-small s f k e = omega (arith, place-few s f k e)
 
 pub answer-small : (s : List ℕ) → readingPlace (readList s .answer) < 4294967296
 answer-small s = go (readList s .answer) refl

@@ -2,8 +2,6 @@
 use Prim.Native.Nat.{ℕ, _+_, _≤_, _<_}
 use native.Mathlib.Nat.{zero-add}
 use native.Mathlib.Omega.{arith}
-use mathlib.Core.Bool.{true, false}
-use mathlib.Core.Logic.{_⊎_, inl, inr}
 use mathlib.Core.List.{List, [], _∷_, _++_}
 use mathlib.Core.Path.{_≡_, refl, ap, ap₂, sym, subst, _∙_}
 use lib.ListN.{length, take, drop}
@@ -15,14 +13,14 @@ use Rattle.text.proofs.TextLaws.{room-first, turn-room, turn}
 use Rattle.year.specs.Sound.{Sound}
 use Rattle.year.specs.declared.Course.{Course}
 use Rattle.year.specs.declared.Year.{Year}
-use Rattle.records.specs.Reading.{badLength, readList}
-use Rattle.records.specs.Numbers.{faultNumber, readingPlace}
+use Rattle.records.specs.Reading.{readList}
+use Rattle.records.specs.Numbers.{faultNumber}
 use Rattle.records.specs.Writing.{joined}
 use Rattle.records.specs.declared.Fault.{Fault}
 use Rattle.records.specs.declared.Reading.{Reading}
 use Rattle.records.specs.declared.Reading.the-variants as reading
 use Rattle.records.specs.declared.Received.{Received}
-use Rattle.records.proofs.ListLaws.{FirstFault, list-refused, read-front, read-sound}
+use Rattle.records.proofs.ListLaws.{read-sound, place-few}
 use Rattle.records.proofs.LayLaws.{joined-more}
 use Rattle.filter.specs.Filter.{filterOf}
 use Rattle.filter.specs.declared.Answer.{Answer}
@@ -122,17 +120,8 @@ module _ (s : List ℕ) (r : Received) (e : r ≡ readList s) where
     pub refused-put : (d d′ : List ℕ) (x : ℕ) → Put d 0 (pairText refusedWord n k) d′ x → Put d 0 (listingOf s) d′ x
     refused-put d d′ x p = received-put (reading.Refused f k) q (pairText refusedWord n k) told d d′ x p
 
--- a list has 80 records at most
 pub place-small : (s : List ℕ) (f : Fault) (k : ℕ) → readList s .answer ≡ reading.Refused f k → k < 4294967296
-unfolding readList
-place-small s f k e = go (list-refused s f k e .1)
-  where
-    first : badLength (length s) ≡ true → k ≡ 0
-    first b = sym (ap readingPlace (rw b at e))
-
-    go : (badLength (length s) ≡ true) ⊎ ((badLength (length s) ≡ false) × FirstFault s f k) → k < 4294967296
-    go (inl b) = omega (arith, first b)
-    go (inr (b, q)) = let r = read-front s k (q .so-far) (q .read-before) in omega (arith, r .count, r .terms-most, r .courses-most)
+place-small s f k e = omega (arith, place-few s f k e)
 
 -- ---- how a listing ends: the text t stands in front of a page d, and is put into the buffer b if it fits
 

@@ -3,19 +3,15 @@
 use Prim.Native.Nat.{ℕ, zero, suc, _+_, _-_, _≤_, _<_}
 use native.Mathlib.Nat.{add-zero, add-suc, le-refl}
 use native.Mathlib.Omega.{arith}
-use mathlib.Core.Bool.{Bool, true, false}
 use mathlib.Core.List.{List, [], _∷_, _++_}
 use mathlib.Core.Path.{_≡_, refl, ap}
-use lib.Dec.{eqb}
 use lib.ListN.{length, take, drop, length-append}
 use lib.Seq.{take-append-seam}
 use borrow.Author.Tests.{le-leb}
-use Rattle.theory.specs.Choice.{choose}
 use Rattle.theory.specs.Sum.{sum}
 use Rattle.text.specs.Text.{newline, blank, placesOf, rowOf, lineOf, termsOf}
 use Rattle.text.proofs.LengthLaws.{places-mono, places-most, numbers-length, no-numbers, row-length, line-length, terms-length}
-use Rattle.year.specs.Sound.{isSound, TermSound, CourseSound, Sound}
-use Rattle.year.specs.Sums.{allPlaced}
+use Rattle.year.specs.Sound.{TermSound, CourseSound, Sound}
 use Rattle.year.specs.declared.Term.{Term}
 use Rattle.year.specs.declared.Course.{Course}
 use Rattle.year.specs.declared.Year.{Year}
@@ -24,12 +20,11 @@ use Rattle.records.specs.Numbers.{faultNumber}
 use Rattle.records.specs.Writing.{joined}
 use Rattle.records.specs.declared.Reading.{Reading}
 use Rattle.records.specs.declared.Reading.the-variants as reading
-use Rattle.rules.specs.Round.{round}
-use Rattle.filter.specs.Filter.{filtered, atRest, roundsFrom, filterOf}
+use Rattle.filter.specs.Filter.{filterOf}
+use Rattle.filter.proofs.RoundLaws.{rounds-few}
 use Rattle.filter.specs.Numbers.{filterNumber, filterRounds}
 use Rattle.filter.specs.declared.Answer.{Answer}
 use Rattle.filter.specs.declared.Answer.the-variants.{Settled, Open, NoPlan, Unsound}
-use Rattle.filter.specs.declared.Filtered.{Filtered}
 use Rattle.display.specs.Listing.{settledWord, openWord, noPlanWord, refusedWord, termWord, courseWord, termLine, courseLine, termLineAt, courseLineAt, yearText, pairText, answerText, filteredText, listingOf, listedOf, listedIn}
 use Rattle.display.specs.Numbers.{listedLength}
 use Rattle.display.proofs.ListingLaws.{filtered-sound, received-by, received-sound}
@@ -155,37 +150,6 @@ year-length word n y h few s =
 
 -- ---- the answer
 
--- k rounds more at most
-rounds-most : (k : ℕ) (y z : Year) (n : ℕ) → filterRounds (roundsFrom k y z n .answer) ≤ n + k
-unfolding roundsFrom
-rounds-most zero y z n = omega arith
-rounds-most (suc k) y z n = go (eqb (round z .rule) 0) (round z .altered) (rounds-most k y (round z .year) (n + 1))
-  where
-    rest : (b : Bool) → filterRounds (choose b (Settled (n + 1)) (Open (n + 1))) ≤ n + suc k
-    rest true = omega arith
-    rest false = omega arith
-
-    go : (d b : Bool) → filterRounds (roundsFrom k y (round z .year) (n + 1) .answer) ≤ n + 1 + k
-        → let f : Filtered = elim d [
-          | false ↦ filtered (NoPlan (round z .rule) (n + 1)) y
-          | true ↦
-              elim b [
-                | true ↦ roundsFrom k y (round z .year) (n + 1)
-                | false ↦ filtered (atRest (round z .year) (n + 1)) (round z .year)
-              ]
-        ] in filterRounds (f .answer) ≤ n + suc k
-    go false b h = omega arith
-    go true true h = omega arith
-    go true false h = rest (allPlaced (round z .year))
-
-filter-rounds : (y : Year) → filterRounds (filterOf y .answer) ≤ 1025985
-unfolding filterOf
-filter-rounds y = go (isSound y)
-  where
-    go : (b : Bool) → filterRounds (choose b (roundsFrom 1025985 y y 0) (filtered Unsound y) .answer) ≤ 1025985
-    go true = omega (arith, rounds-most 1025985 y y 0)
-    go false = omega arith
-
 answer-length : (a : Answer) (y : Year) → filterRounds a ≤ 1025985 → Sound y → length (answerText a y) ≤ 3436
 answer-length (Settled n) y h s = year-length settledWord n y (omega arith) h s
 answer-length (Open n) y h s = year-length openWord n y (omega arith) h s
@@ -200,7 +164,7 @@ longest s = go (readList s .answer) refl
         let y = readList s .year in
         let sound = received-sound s (readList s) refl e in
         rw (received-by s (readList s) refl reading.Done e (filteredText (filterOf y)) refl)
-        (answer-length (filterOf y .answer) (filterOf y .year) (filter-rounds y) (filtered-sound y (filterOf y) refl sound))
+        (answer-length (filterOf y .answer) (filterOf y .year) (rounds-few y) (filtered-sound y (filterOf y) refl sound))
     go (reading.Refused f k) e =
         rw (received-by s (readList s) refl (reading.Refused f k) e (pairText refusedWord (faultNumber f) k) refl)
         (omega (arith, pair-length refusedWord (faultNumber f) k))

@@ -4,7 +4,10 @@ use mathlib.Core.Bool.{Bool, true, false}
 use mathlib.Core.Path.{_≡_, refl}
 use native.Mathlib.Omega.{arith}
 use lib.Dec.{eqb}
-use Rattle.year.specs.Sound.{Sound}
+use Rattle.theory.specs.Choice.{choose}
+use Rattle.theory.proofs.ChoiceLaws.{choose-case}
+use Rattle.year.specs.Sound.{Sound, isSound}
+use Rattle.year.specs.Sums.{allPlaced}
 use Rattle.year.specs.declared.Year.{Year}
 use Rattle.year.proofs.SoundLaws.{sound-to}
 use Rattle.rules.specs.Round.{round}
@@ -14,7 +17,8 @@ use Rattle.rules.proofs.Narrows.{narrower-self, narrower-then}
 use Rattle.rules.proofs.Passes.{narrows-round}
 use Rattle.filter.specs.Halves.{firstHalf, secondHalf}
 use Rattle.filter.specs.Filter.{filtered, atRest, roundsFrom, filterOf}
-use Rattle.filter.specs.declared.Answer.the-variants.{NoPlan}
+use Rattle.filter.specs.Numbers.{filterRounds}
+use Rattle.filter.specs.declared.Answer.the-variants.{Settled, Open, NoPlan, Unsound}
 use Rattle.filter.specs.declared.Filtered.{Filtered}
 
 -- the halves are a split of the list of passes
@@ -49,30 +53,55 @@ module _ (y z : Year) (n : ℕ) (few : n ≤ 1025984) where
 pub round-falls : (z : Year) → Sound z → round z .altered ≡ true → leeway (round z .year) < leeway z
 round-falls z s a = let w = rw a at (narrows-round z s .falls) in omega arith
 
--- ---- what is left of the year in the end
+-- ---- how a filtering ends
 
-module _ (y : Year) (s : Sound y) where
-  pub rounds-narrower : (k : ℕ) (z : Year) (n : ℕ) → Narrower y z → Narrower y (roundsFrom k y z n .year)
-  unfolding roundsFrom
-  rounds-narrower zero z n a = a
-  rounds-narrower (suc k) z n a =
-      let after = narrower-then y z (round z .year) a (narrows-round z (a .sound) .year) in
-      go (eqb (round z .rule) 0) (round z .altered) after (rounds-narrower k (round z .year) (n + 1) after)
-    where
-      go : (d b : Bool) → Narrower y (round z .year) → Narrower y (roundsFrom k y (round z .year) (n + 1) .year)
-          → let f : Filtered = elim d [
-            | false ↦ filtered (NoPlan (round z .rule) (n + 1)) y
-            | true ↦
-                elim b [
-                  | true ↦ roundsFrom k y (round z .year) (n + 1)
-                  | false ↦ filtered (atRest (round z .year) (n + 1)) (round z .year)
-                ]
-          ] in Narrower y (f .year)
-      go false b after on = narrower-self y s
-      go true true after on = on
-      go true false after on = after
+-- whatever holds of each way to end, where Q is kept from round to round, with k rounds left to run
+rounds-by : (P : Filtered → Type 0) (Q : ℕ → Year → ℕ → Type 0) (y : Year)
+    → ((z : Year) (n : ℕ) → Q 0 z n → P (filtered (Open n) z))
+    → ((k : ℕ) (z : Year) (n : ℕ) → Q (suc k) z n → P (filtered (NoPlan (round z .rule) (n + 1)) y))
+    → ((k : ℕ) (z : Year) (n : ℕ) → Q (suc k) z n → P (filtered (atRest (round z .year) (n + 1)) (round z .year)))
+    → ((k : ℕ) (z : Year) (n : ℕ) → Q (suc k) z n → Q k (round z .year) (n + 1))
+    → (k : ℕ) (z : Year) (n : ℕ) → Q k z n → P (roundsFrom k y z n)
+unfolding roundsFrom
+rounds-by P Q y out none rest on zero z n q = out z n q
+rounds-by P Q y out none rest on (suc k) z n q =
+    go (eqb (round z .rule) 0) (round z .altered) (rounds-by P Q y out none rest on k (round z .year) (n + 1) (on k z n q))
+  where
+    go : (d b : Bool) → P (roundsFrom k y (round z .year) (n + 1))
+        → P (elim d [
+          | false ↦ filtered (NoPlan (round z .rule) (n + 1)) y
+          | true ↦
+              elim b [
+                | true ↦ roundsFrom k y (round z .year) (n + 1)
+                | false ↦ filtered (atRest (round z .year) (n + 1)) (round z .year)
+              ]
+        ])
+    go false b p = none k z n q
+    go true true p = p
+    go true false p = rest k z n q
 
-  -- a filtering leaves a sound year of as many terms and courses
-  pub filter-narrower : Narrower y (filterOf y .year)
-  unfolding filterOf
-  filter-narrower = rw (sound-to y s) (rounds-narrower 1025985 y 0 (narrower-self y s))
+-- a filtering leaves a sound year of as many terms and courses
+pub filter-narrower : (y : Year) → Sound y → Narrower y (filterOf y .year)
+unfolding filterOf
+filter-narrower y s =
+    rw (sound-to y s)
+    (rounds-by (λ f. Narrower y (f .year)) (λ k z n. Narrower y z) y (λ z n a. a) (λ k z n a. narrower-self y s) (λ k z n. after z) (λ k z n. after z)
+    1025985 y 0 (narrower-self y s))
+  where
+    after : (z : Year) → Narrower y z → Narrower y (round z .year)
+    after z a = narrower-then y z (round z .year) a (narrows-round z (a .sound) .year)
+
+-- its rounds are no more than it may run
+pub rounds-few : (y : Year) → filterRounds (filterOf y .answer) ≤ 1025985
+unfolding filterOf
+rounds-few y = go (isSound y)
+  where
+    rest : (k : ℕ) (z : Year) (n : ℕ) → n + suc k ≤ 1025985 → filterRounds (atRest (round z .year) (n + 1)) ≤ 1025985
+    rest k z n q =
+        choose-case (λ a. filterRounds a ≤ 1025985) (allPlaced (round z .year)) (Settled (n + 1)) (Open (n + 1)) (λ e. omega arith) (λ e. omega arith)
+
+    go : (b : Bool) → filterRounds (choose b (roundsFrom 1025985 y y 0) (filtered Unsound y) .answer) ≤ 1025985
+    go true =
+        rounds-by (λ f. filterRounds (f .answer) ≤ 1025985) (λ k z n. n + k ≤ 1025985) y (λ z n q. omega arith) (λ k z n q. omega arith) rest
+        (λ k z n q. omega arith) 1025985 y 0 (omega arith)
+    go false = omega arith

@@ -4,6 +4,7 @@ use Rattle.promises.proofs.Rounds.{filtering-narrows}
 use Rattle.promises.proofs.Narrowings.{each-narrowing}
 use Rattle.promises.proofs.SettledPlan.{one-placing}
 use Rattle.promises.proofs.SpareRoom.{spare-room}
+use Rattle.promises.proofs.Listing.{plans-counted, year-e-whole}
 use Rattle.promises.proofs.Table.{table-holds}
 use Rattle.promises.proofs.Unique.{one-result}
 use Rattle.promises.proofs.Demands.{demand-1, demand-2, demand-3}
@@ -13,6 +14,8 @@ promises = record {
   demand-1 = demand-1;
   demand-2 = demand-2;
   demand-3 = demand-3;
+  year-e = year-e-whole;
+  plans-counted = plans-counted;
   table-holds = table-holds;
   one-result = one-result;
   each-narrowing = each-narrowing;

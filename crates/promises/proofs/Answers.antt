@@ -24,7 +24,7 @@ use Rattle.filter.specs.declared.Answer.the-variants.{Settled, Open}
 use Rattle.filter.specs.declared.Filtered.{Filtered}
 use Rattle.promises.specs.Rounds.{Ends, finds-no-plan, comes-to-rest}
 use Rattle.promises.specs.Answers.{SoundTold, WritingDue, FilteringDue}
-use Rattle.promises.proofs.Rounds.{filter-runs, few-rounds, rest-rounds}
+use Rattle.promises.proofs.Rounds.{filter-runs}
 use Rattle.promises.proofs.RoundsKept.{filter-unsound}
 
 pub sound-told : SoundTold
@@ -89,50 +89,33 @@ end-said : (y z : Year) (n : ℕ) (r : Filtered) → Ends y n z r → Said (r .a
 end-said y z n r (finds-no-plan e) = record { some-round = omega arith; few-rules = round-named z; named = λ q. omega (arith, e); not-unsound = λ q. omega arith }
 end-said y z n r (comes-to-rest e g) = rest-said (allPlaced z) n
 
-end-rounds : (y z : Year) (n : ℕ) (r : Filtered) → Ends y n z r → filterRounds (r .answer) ≡ suc n
-end-rounds y z n r (finds-no-plan e) = refl
-end-rounds y z n r (comes-to-rest e g) = rest-rounds z (suc n)
-
-sound-said : (y : Year) → Sound y → Said (filterOf y .answer) × (filterRounds (filterOf y .answer) ≤ 1025985)
-sound-said y s =
-    let f = filter-runs y s in
-    let n = f .rounds-before-last in
-    (end-said y (f .reached) n (filterOf y) (f .ends), omega (arith, end-rounds y (f .reached) n (filterOf y) (f .ends), few-rounds s (f .altering)))
+sound-said : (y : Year) → Sound y → Said (filterOf y .answer)
+sound-said y s = let f = filter-runs y s in end-said y (f .reached) (f .rounds-before-last) (filterOf y) (f .ends)
 
 -- of a year that is not sound
-unsound-rounds : (y : Year) → isSound y ≡ false → filterRounds (filterOf y .answer) ≡ 0
-unsound-rounds y e = ap (λ r. filterRounds (r .answer)) (filter-unsound y e)
-
 unsound-rule : (y : Year) → isSound y ≡ false → filterRule (filterOf y .answer) ≡ 0
 unsound-rule y e = ap (λ r. filterRule (r .answer)) (filter-unsound y e)
 
 unsound-number : (y : Year) → isSound y ≡ false → filterNumber (filterOf y .answer) ≡ 8
 unsound-number y e = ap (λ r. filterNumber (r .answer)) (filter-unsound y e)
 
-pub rounds-bounded : (y : Year) → filterRounds (filterOf y .answer) ≤ 1025985
-rounds-bounded y = go (isSound y) refl
-  where
-    go : (b : Bool) → isSound y ≡ b → filterRounds (filterOf y .answer) ≤ 1025985
-    go true e = sound-said y (sound-of y e) .1
-    go false e = omega (arith, unsound-rounds y e)
-
 pub rule-bounded : (y : Year) → filterRule (filterOf y .answer) ≤ 11
 rule-bounded y = go (isSound y) refl
   where
     go : (b : Bool) → isSound y ≡ b → filterRule (filterOf y .answer) ≤ 11
-    go true e = sound-said y (sound-of y e) .0 .few-rules
+    go true e = sound-said y (sound-of y e) .few-rules
     go false e = omega (arith, unsound-rule y e)
 
 pub filtering-due : FilteringDue
 filtering-due = record { unsound = λ y. eight y (isSound y) refl; named = λ y. thirteen y (isSound y) refl }
   where
     eight : (y : Year) (b : Bool) → isSound y ≡ b → (filterNumber (filterOf y .answer) ≡ 8) ↔ (Sound y → ⊥)
-    eight y true e = (λ q. absurd (sound-said y (sound-of y e) .0 .not-unsound q), λ z. absurd (z (sound-of y e)))
+    eight y true e = (λ q. absurd (sound-said y (sound-of y e) .not-unsound q), λ z. absurd (z (sound-of y e)))
     eight y false e = (λ q. no-sound y e, λ z. unsound-number y e)
 
     thirteen : (y : Year) (b : Bool) → isSound y ≡ b → filterNumber (filterOf y .answer) ≡ 13
         → (1 ≤ filterRule (filterOf y .answer)) × (filterRule (filterOf y .answer) ≤ 11) × (1 ≤ filterRounds (filterOf y .answer))
     thirteen y true e q =
-        let t = sound-said y (sound-of y e) .0 in
+        let t = sound-said y (sound-of y e) in
         (t .named q, t .few-rules, t .some-round)
     thirteen y false e q = absurd (omega (arith, unsound-number y e, q))

@@ -23,11 +23,12 @@ use Rattle.filter.specs.Filter.{filterOf}
 use Rattle.filter.specs.Numbers.{filterNumber, filterRule}
 use Rattle.filter.specs.declared.Answer.{Answer}
 use Rattle.filter.specs.declared.Answer.the-variants.{Settled, Open, NoPlan, Unsound}
+use Rattle.filter.proofs.RoundLaws.{rounds-few}
 use Rattle.boundary.specs.Packed.{Told, told, packed, apart, readingTold, shortTold, narrowingTold, measuredTold, answerDetail, answerTold}
 use Rattle.boundary.specs.Calls.{whenRead, whenRoom, readCode, imbalanceCode, filterCode, narrowOf, narrowCode}
 use Rattle.boundary.proofs.SmallLaws.{answer-small, imbalance-small}
 use Rattle.promises.specs.Codes.{Tells, CodesDue}
-use Rattle.promises.proofs.Answers.{rounds-bounded, rule-bounded}
+use Rattle.promises.proofs.Answers.{rule-bounded}
 
 -- ---- what fits is undone
 
@@ -93,7 +94,7 @@ answer-fits : (y : Year) → Fits (answerTold (filterOf y .answer))
 answer-fits y = record {
   number-fits = few (filterOf y .answer);
   detail-fits = omega (arith, detail (filterOf y .answer), rule-bounded y);
-  value-fits = omega (arith, rounds-bounded y);
+  value-fits = omega (arith, rounds-few y);
 }
   where
     few : (a : Answer) → filterNumber a < 256

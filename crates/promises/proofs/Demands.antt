@@ -5,6 +5,7 @@ use Rattle.records.proofs.ListLaws.{read-sound}
 use Rattle.records.proofs.WriteLaws.{records-length, records-most}
 use Rattle.records.proofs.ReadWrite.{read-write}
 use Rattle.records.proofs.WriteRead.{write-read}
+use Rattle.filter.proofs.RoundLaws.{rounds-few}
 use Rattle.promises.specs.Rounds.{Filtering}
 use Rattle.promises.specs.Demands.{Demand1, Demand2, Demand3}
 use Rattle.promises.proofs.Rounds.{filter-runs, no-other, marks-tell, filter-rested}
@@ -13,7 +14,8 @@ use Rattle.promises.proofs.Narrowings.{each-narrowing}
 use Rattle.promises.proofs.SettledPlan.{settled-plan}
 use Rattle.promises.proofs.ImbalancePlan.{imbalance-due}
 use Rattle.promises.proofs.Refusals.{reading-due}
-use Rattle.promises.proofs.Answers.{sound-told, writing-due, rounds-bounded, filtering-due}
+use Rattle.promises.proofs.Answers.{sound-told, writing-due, filtering-due}
+use Rattle.promises.proofs.Listing.{listing-due}
 use Rattle.promises.proofs.Codes.{codes-due}
 use Rattle.promises.proofs.Boundary.{buffer-left}
 use Rattle.promises.proofs.RoundTrip.{read-done, read-refused, wrote}
@@ -23,13 +25,14 @@ use Rattle.promises.proofs.Sequence.{sequence-narrower, sequence-plans,
 
 pub demand-1 : Demand1
 demand-1 = record {
-  bounded-rounds = rounds-bounded;
+  bounded-rounds = rounds-few;
   sound-told = sound-told;
   reading-due = reading-due;
   writing-due = writing-due;
   narrowing-due = λ n y. each-narrowing n y .number;
   filtering-due = filtering-due;
   imbalance-due = imbalance-due;
+  listing-due = listing-due;
   codes-due = codes-due;
   refused-reading = read-refused;
   refused-narrowing = λ n y. each-narrowing n y .refused;

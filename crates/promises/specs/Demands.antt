@@ -26,6 +26,7 @@ use Rattle.promises.specs.OnePlacing.{thePlacing}
 use Rattle.promises.specs.Refusals.{ReadingDue}
 use Rattle.promises.specs.Answers.{SoundTold, WritingDue, FilteringDue}
 use Rattle.promises.specs.ImbalancePlan.{ImbalanceDue}
+use Rattle.promises.specs.Listing.{ListingDue}
 use Rattle.promises.specs.Codes.{CodesDue}
 use Rattle.promises.specs.Boundary.{BufferLeft}
 
@@ -43,6 +44,7 @@ pub record Demand1 : Type 0 where
   pub narrowing-due : (n : Narrow) (y : Year) → narrowingNumber (narrow n y .answer) ≡ numberDue y n
   pub filtering-due : FilteringDue
   pub imbalance-due : ImbalanceDue
+  pub listing-due : ListingDue
   pub codes-due : CodesDue
   -- handed back unaltered, and nothing written
   pub refused-reading : (bytes : List ℕ) → (readingNumber (readList bytes .answer) ≡ 0 → ⊥) → readList bytes .year ≡ emptyYear

@@ -13,4 +13,5 @@ pub mod Boundary
 pub mod Refusals
 pub mod Answers
 pub mod Codes
+pub mod Listing
 pub mod Promises

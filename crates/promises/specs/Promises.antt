@@ -1,5 +1,6 @@
 -- All promises in one record. It is proved in proofs/All.antt.
 use Rattle.promises.specs.Demands.{Demand1, Demand2, Demand3}
+use Rattle.promises.specs.Listing.{PlansCounted, YearE}
 use Rattle.promises.specs.Table.{TableHolds}
 use Rattle.promises.specs.Unique.{OneResult}
 use Rattle.promises.specs.Narrowings.{EachNarrowing}
@@ -12,6 +13,8 @@ pub record Promises : Type 0 where
   pub demand-2 : Demand2
   pub demand-3 : Demand3
   pub table-holds : TableHolds
+  pub year-e : YearE
+  pub plans-counted : PlansCounted
   pub one-result : OneResult
   pub each-narrowing : EachNarrowing
   pub filtering-narrows : FilteringNarrows

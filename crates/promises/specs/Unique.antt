@@ -22,41 +22,51 @@ use Rattle.boundary.proofs.turfsteeple_read.Reads as turfsteeple-read-call
 use Rattle.boundary.proofs.turfsteeple_filter.Reads as turfsteeple-filter-call
 use Rattle.boundary.proofs.turfsteeple_narrow.Reads as turfsteeple-narrow-call
 use Rattle.boundary.proofs.turfsteeple_imbalance.Reads as turfsteeple-imbalance-call
+use Rattle.display.proofs.listing.Reads as listing-call
+use Rattle.display.proofs.front.Reads as front-call
 
--- A contract: what it asks of the arguments; and what it says of the arguments, the result and the arguments at exit. It asks nothing, and
--- two results that meet it are the same. `left` is what a caller sees of lent lists at exit: two exits that meet it leave the same there
-pub record One {A R E L : Type 0} (asks : A → Type 0) (says : A → R → E → Type 0) (left : E → L) : Type 0 where
+-- A contract: what it asks of the arguments; and what it says of the arguments, the result and the arguments at exit. It asks nothing;
+-- and two ends that meet it are the same in all that a caller sees of them
+pub record One {A R E S : Type 0} (asks : A → Type 0) (says : A → R → E → Type 0) (seen : R → E → S) : Type 0 where
   pub asks-nothing : (a : A) → asks a
-  pub one-result : (a : A) (r s : R) (e f : E) → says a r e → says a s f → r ≡ s
-  pub one-exit : (a : A) (r s : R) (e f : E) → says a r e → says a s f → left e ≡ left f
+  pub one-end : (a : A) (r s : R) (e f : E) → says a r e → says a s f → seen r e ≡ seen s f
 
--- of a call that is lent no list to write to, nothing is left
-abbrev pub nothing : {E : Type 0} → E → Unit {0}
-nothing e = tt
+-- ---- what a caller sees
 
--- the bytes of the list that is lent as the second argument, and as the fifth
-abbrev pub second : {B D : Type 0} → B × (RefT (List ℕ) × D) → List ℕ
-second e = now (e .1 .0)
+-- the result
+abbrev pub result : {R E : Type 0} → R → E → R
+result r e = r
 
-abbrev pub fifth : {B C D E F : Type 0} → B × (C × (D × (E × (RefT (List ℕ) × F)))) → List ℕ
-fifth e = now (e .1 .1 .1 .1 .0)
+-- the result and the bytes of the list that was lent as the second argument, or as the fifth
+abbrev pub andSecond : {R B D : Type 0} → R → B × (RefT (List ℕ) × D) → R × List ℕ
+andSecond r e = (r, now (e .1 .0))
 
--- a line for each public call
+abbrev pub andFifth : {R B C D E F : Type 0} → R → B × (C × (D × (E × (RefT (List ℕ) × F)))) → R × List ℕ
+andFifth r e = (r, now (e .1 .1 .1 .1 .0))
+
+-- the bytes of a result that is a part of a lent list
+abbrev pub bytesOf : {E : Type 0} → RefT (List ℕ) → E → List ℕ
+bytesOf r e = now r
+
+-- ---- a line for each public call
+
 pub record OneResult : Type 0 where
-  pub empty : (κs : Lfts 0) → One (empty-call.Pre κs) (empty-call.Post κs) nothing
-  pub is-sound : (κs : Lfts 0) → One (is-sound-call.Pre κs) (is-sound-call.Post κs) nothing
-  pub place : (κs : Lfts 0) → One (place-call.Pre κs) (place-call.Post κs) nothing
-  pub bar : (κs : Lfts 0) → One (bar-call.Pre κs) (bar-call.Post κs) nothing
-  pub raise-low-credits : (κs : Lfts 0) → One (raise-low-credits-call.Pre κs) (raise-low-credits-call.Post κs) nothing
-  pub lower-high-credits : (κs : Lfts 0) → One (lower-high-credits-call.Pre κs) (lower-high-credits-call.Post κs) nothing
-  pub raise-low-count : (κs : Lfts 0) → One (raise-low-count-call.Pre κs) (raise-low-count-call.Post κs) nothing
-  pub lower-high-count : (κs : Lfts 0) → One (lower-high-count-call.Pre κs) (lower-high-count-call.Post κs) nothing
-  pub imbalance : (κs : Lfts 0) → One (imbalance-call.Pre κs) (imbalance-call.Post κs) nothing
-  pub read : (κs : Lfts 1) → One (read-call.Pre κs) (read-call.Post κs) nothing
-  pub fault-number : (κs : Lfts 0) → One (fault-number-call.Pre κs) (fault-number-call.Post κs) nothing
-  pub write : (κs : Lfts 1) → One (write-call.Pre κs) (write-call.Post κs) second
-  pub filter : (κs : Lfts 0) → One (filter-call.Pre κs) (filter-call.Post κs) nothing
-  pub turfsteeple-read : (κs : Lfts 1) → One (turfsteeple-read-call.Pre κs) (turfsteeple-read-call.Post κs) nothing
-  pub turfsteeple-filter : (κs : Lfts 2) → One (turfsteeple-filter-call.Pre κs) (turfsteeple-filter-call.Post κs) second
-  pub turfsteeple-narrow : (κs : Lfts 2) → One (turfsteeple-narrow-call.Pre κs) (turfsteeple-narrow-call.Post κs) fifth
-  pub turfsteeple-imbalance : (κs : Lfts 1) → One (turfsteeple-imbalance-call.Pre κs) (turfsteeple-imbalance-call.Post κs) nothing
+  pub empty : (κs : Lfts 0) → One (empty-call.Pre κs) (empty-call.Post κs) result
+  pub is-sound : (κs : Lfts 0) → One (is-sound-call.Pre κs) (is-sound-call.Post κs) result
+  pub place : (κs : Lfts 0) → One (place-call.Pre κs) (place-call.Post κs) result
+  pub bar : (κs : Lfts 0) → One (bar-call.Pre κs) (bar-call.Post κs) result
+  pub raise-low-credits : (κs : Lfts 0) → One (raise-low-credits-call.Pre κs) (raise-low-credits-call.Post κs) result
+  pub lower-high-credits : (κs : Lfts 0) → One (lower-high-credits-call.Pre κs) (lower-high-credits-call.Post κs) result
+  pub raise-low-count : (κs : Lfts 0) → One (raise-low-count-call.Pre κs) (raise-low-count-call.Post κs) result
+  pub lower-high-count : (κs : Lfts 0) → One (lower-high-count-call.Pre κs) (lower-high-count-call.Post κs) result
+  pub imbalance : (κs : Lfts 0) → One (imbalance-call.Pre κs) (imbalance-call.Post κs) result
+  pub read : (κs : Lfts 1) → One (read-call.Pre κs) (read-call.Post κs) result
+  pub fault-number : (κs : Lfts 0) → One (fault-number-call.Pre κs) (fault-number-call.Post κs) result
+  pub write : (κs : Lfts 1) → One (write-call.Pre κs) (write-call.Post κs) andSecond
+  pub filter : (κs : Lfts 0) → One (filter-call.Pre κs) (filter-call.Post κs) result
+  pub turfsteeple-read : (κs : Lfts 1) → One (turfsteeple-read-call.Pre κs) (turfsteeple-read-call.Post κs) result
+  pub turfsteeple-filter : (κs : Lfts 2) → One (turfsteeple-filter-call.Pre κs) (turfsteeple-filter-call.Post κs) andSecond
+  pub turfsteeple-narrow : (κs : Lfts 2) → One (turfsteeple-narrow-call.Pre κs) (turfsteeple-narrow-call.Post κs) andFifth
+  pub turfsteeple-imbalance : (κs : Lfts 1) → One (turfsteeple-imbalance-call.Pre κs) (turfsteeple-imbalance-call.Post κs) result
+  pub listing : (κs : Lfts 2) → One (listing-call.Pre κs) (listing-call.Post κs) andSecond
+  pub front : (κs : Lfts 1) → One (front-call.Pre κs) (front-call.Post κs) bytesOf

@@ -25,6 +25,7 @@ use Rattle.records.specs.declared.Record.the-variants.{OfTerm, OfCourse,
 use Rattle.records.specs.declared.Reading.{Reading}
 use Rattle.records.specs.declared.Reading.the-variants.{Done, Refused}
 use Rattle.records.specs.declared.Received.{Received}
+use Rattle.records.specs.Numbers.{readingPlace}
 use Rattle.records.specs.Reading.{recordAt, blankYear, addTerm, addCourse, done, refused, taken, onward, readTo, badLength, readList}
 use Rattle.records.proofs.EntryLaws.{record-term, record-course}
 
@@ -228,6 +229,18 @@ list-refused s f k e = go (badLength (length s)) refl e
         let r = first-fault s (length s / 16) f k e in
         let here : readTo s (suc k) ≡ refused f k = read-more s k (r .1 .so-far) (r .1 .read-before) ∙ ap (taken (r .1 .so-far) k) (r .1 .fault-here) in
         (refused-stays s (suc k) (length s / 16) f k (omega (arith, r .0)) here, inr (refl, r .1))
+
+-- a list has 80 records at most, and a refusal by length is at place 0
+pub place-few : (s : List ℕ) (f : Fault) (k : ℕ) → readList s .answer ≡ Refused f k → k ≤ 80
+unfolding readList
+place-few s f k e = go (list-refused s f k e .1)
+  where
+    first : badLength (length s) ≡ true → k ≡ 0
+    first b = sym (ap readingPlace (rw b at e))
+
+    go : (badLength (length s) ≡ true) ⊎ ((badLength (length s) ≡ false) × FirstFault s f k) → k ≤ 80
+    go (inl b) = omega (arith, first b)
+    go (inr (b, q)) = let r = read-front s k (q .so-far) (q .read-before) in omega (arith, r .count, r .terms-most, r .courses-most)
 
 -- a year that was read is sound
 pub read-sound : (s : List ℕ) (y : Year) → readList s ≡ done y → Sound y
