@@ -57,11 +57,11 @@ fn rule_1(t: Term, u: Sums) -> Outcome
 fn rule_2(t: Term, x: Totals, all: Credits) -> Outcome
     ensures { λ r. ⌜ r ≡ rule2Of t x (all .0) ⌝ }
 {
-    let lows = tighter::less(x.low.0, t.low.0);
-    let highs = tighter::less(x.high.0, t.high.0);
-    let low = Credits(tighter::less(all.0, highs));
-    let high = Credits(tighter::less(all.0, lows));
-    frame::outcome(2, all.0 < lows, t, tighter::credits_within(t, low, high))
+    let lows = Credits(tighter::less(x.low.0, t.low.0));
+    let highs = Credits(tighter::less(x.high.0, t.high.0));
+    let low = Credits(tighter::less(all.0, highs.0));
+    let high = Credits(tighter::less(all.0, lows.0));
+    frame::outcome(2, all.0 < lows.0, t, tighter::credits_within(t, low, high))
 }
 
 fn rule_4(t: Term, u: Sums) -> Outcome
@@ -79,11 +79,16 @@ fn rule_4(t: Term, u: Sums) -> Outcome
 fn rule_5(t: Term, x: Totals, all: Courses) -> Outcome
     ensures { λ r. ⌜ r ≡ rule5Of t x (all .0) ⌝ }
 {
-    let leasts = tighter::less(x.least.0, t.least.0);
-    let mosts = tighter::less(x.most.0, t.most.0);
-    let least = Courses(tighter::less(all.0, mosts));
-    let most = Courses(tighter::less(all.0, leasts));
-    frame::outcome(5, all.0 < leasts, t, tighter::counts_within(t, least, most))
+    let leasts = Courses(tighter::less(x.least.0, t.least.0));
+    let mosts = Courses(tighter::less(x.most.0, t.most.0));
+    let least = Courses(tighter::less(all.0, mosts.0));
+    let most = Courses(tighter::less(all.0, leasts.0));
+    frame::outcome(
+        5,
+        all.0 < leasts.0,
+        t,
+        tighter::counts_within(t, least, most),
+    )
 }
 
 // Rule 1 for credits, rule 4 for counts.

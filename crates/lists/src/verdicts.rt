@@ -2,6 +2,7 @@
 use crate::TermVerdict;
 use rules::Verdict;
 use year::Course;
+use year::Courses;
 use year::Credits;
 use year::Sums;
 use year::Term;
@@ -27,12 +28,12 @@ pub fn term_verdict_10(t: Term, u: Sums) -> TermVerdict
     requires { ⌜ u .placed .0 + u .free .0 < 100 ⌝ }
     ensures { λ r. ⌜ r ≡ termVerdict10 t u ⌝ }
 {
-    let listed = u.placed.0 + u.free.0;
-    if (t.most.0 < u.placed.0) | (listed < t.least.0) {
+    let listed = Courses(u.placed.0 + u.free.0);
+    if (t.most.0 < u.placed.0) | (listed.0 < t.least.0) {
         return TermVerdict::NoPlan(10);
     }
     let full = u.placed.0 == t.most.0;
-    let needed = listed == t.least.0;
+    let needed = listed.0 == t.least.0;
     if (full | needed) & (0 < u.free.0) {
         return TermVerdict::ByCounts(full, needed);
     }

@@ -24,7 +24,7 @@ outcome-requires c κs = search needs
 returns : tie.Need-returns
 returns c =
     let w = c .before in
-    let l = w .before .before in
+    let l = w .before .before .before in
     rw (w .counts-within .ensures, l .less4 .ensures, l .before .less3 .ensures, l .before .before .less2 .ensures, l .before .before .before .less .ensures) at (c .outcome .ensures)
 
 pub rule-5-spec : {M : Type 1} → statement M
