@@ -6,11 +6,13 @@ use Rattle.promises.proofs.SettledPlan.{one-placing}
 use Rattle.promises.proofs.SpareRoom.{spare-room}
 use Rattle.promises.proofs.Listing.{plans-counted, year-e-whole}
 use Rattle.promises.proofs.Table.{table-holds}
+use Rattle.promises.proofs.Answering.{each-answers}
 use Rattle.promises.proofs.Unique.{one-result}
 use Rattle.promises.proofs.Demands.{demand-1, demand-2, demand-3}
 
-pub promises : Promises
-promises = record {
+pub promises : (M : Type 1) → Promises M
+promises M = record {
+  each-answers = each-answers M;
   demand-1 = demand-1;
   demand-2 = demand-2;
   demand-3 = demand-3;

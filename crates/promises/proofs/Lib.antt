@@ -16,5 +16,6 @@ pub mod Boundary
 pub mod Listing
 pub mod Table
 pub mod Unique
+pub mod Answering
 pub mod Demands
 pub mod All

@@ -3,6 +3,7 @@
 pub mod Demands
 pub mod Table
 pub mod Unique
+pub mod Answering
 pub mod Narrowings
 pub mod Rounds
 pub mod Sequence

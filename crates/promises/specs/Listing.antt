@@ -24,7 +24,8 @@ pub record ListingDue : Type 0 where
       → listedIn list out ≡ listingOf list ++ drop (length (listingOf list)) out
   pub untouched : (list out : List ℕ) → listedNumber (listedOf list (length out)) ≡ 9 → listedIn list out ≡ out
   -- the front part that a program writes, of the buffer that it lends
-  pub printed : (list out : List ℕ) → length out ≡ 3436 → take (listedLength (listedOf list (length out))) (listedIn list out) ≡ listingOf list
+  pub printed : (list out : List ℕ) → length out ≡ 3436
+      → take (listedLength (listedOf list (length out))) (listedIn list out) ≡ listingOf list
 
 -- trying all placings gives exactly the plans of a year, each once
 abbrev pub PlansCounted : Type 0

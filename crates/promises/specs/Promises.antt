@@ -1,14 +1,16 @@
--- All promises in one record. It is proved in proofs/All.antt.
+-- All promises in one record. It is proved in proofs/All.antt. (M is the resources of the memory that programs run in: any.)
 use Rattle.promises.specs.Demands.{Demand1, Demand2, Demand3}
 use Rattle.promises.specs.Listing.{PlansCounted, YearE}
 use Rattle.promises.specs.Table.{TableHolds}
+use Rattle.promises.specs.Answering.{EachAnswers}
 use Rattle.promises.specs.Unique.{OneResult}
 use Rattle.promises.specs.Narrowings.{EachNarrowing}
 use Rattle.promises.specs.Rounds.{FilteringNarrows}
 use Rattle.promises.specs.OnePlacing.{OnePlacing}
 use Rattle.promises.specs.SpareRoom.{SpareRoom}
 
-pub record Promises : Type 0 where
+pub record Promises (M : Type 1) : Type 2 where
+  pub each-answers : EachAnswers M
   pub demand-1 : Demand1
   pub demand-2 : Demand2
   pub demand-3 : Demand3
