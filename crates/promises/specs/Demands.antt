@@ -34,7 +34,7 @@ use Rattle.promises.specs.Boundary.{BufferLeft}
 
 -- Every byte string and every year value gets an answer in a bounded number of rounds. Bad ones are refused by the paper's numbers
 -- under exactly its conditions; a refused call, or one answered "no plan", hands the year back unaltered and writes nothing to a lent
--- buffer. (That each call answers, without trapping or hanging, is what the proofs of the functions say.)
+-- buffer. (That each call answers, without trapping or hanging, is EachAnswers, in Answering.)
 pub record Demand1 : Type 0 where
   pub bounded-rounds : (y : Year) → filterRounds (filterOf y .answer) ≤ 1025985
   -- refused by the paper's numbers under exactly its conditions
