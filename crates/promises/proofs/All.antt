@@ -4,6 +4,7 @@ use Rattle.promises.proofs.Rounds.{filtering-narrows}
 use Rattle.promises.proofs.Narrowings.{each-narrowing}
 use Rattle.promises.proofs.SettledPlan.{one-placing}
 use Rattle.promises.proofs.SpareRoom.{spare-room}
+use Rattle.promises.proofs.Decimal.{numbers-read}
 use Rattle.promises.proofs.Listing.{plans-counted, year-e-whole}
 use Rattle.promises.proofs.Table.{table-holds}
 use Rattle.promises.proofs.Answering.{each-answers}
@@ -18,6 +19,7 @@ promises M = record {
   demand-3 = demand-3;
   year-e = year-e-whole;
   plans-counted = plans-counted;
+  numbers-read = numbers-read;
   table-holds = table-holds;
   one-result = one-result;
   each-narrowing = each-narrowing;

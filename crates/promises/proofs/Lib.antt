@@ -13,6 +13,7 @@ pub mod Refusals
 pub mod Sequence
 pub mod SpareRoom
 pub mod Boundary
+pub mod Decimal
 pub mod Listing
 pub mod Table
 pub mod Unique

@@ -1,17 +1,28 @@
 -- The listing: the text that a program prints for a byte string, in a buffer that it lends; and year E, whole.
-use Prim.Native.Nat.{ℕ, _≤_, _<_}
+use Prim.Native.Nat.{ℕ, _+_, _-_, _*_, _^_, _≤_, _<_}
 use mathlib.Core.List.{List, [], _∷_, _++_}
 use mathlib.Core.Logic.{_↔_}
 use mathlib.Core.Path.{_≡_}
-use lib.ListN.{length, take, drop}
+use lib.ListN.{length, take, drop, getD}
 use Rattle.year.specs.Examples.{yearE}
 use Rattle.year.specs.Plans.{plansOf, countOfPlans, EachPlanOnce}
 use Rattle.year.specs.declared.Year.{Year}
 use Rattle.records.specs.Examples.{bytesE}
 use Rattle.records.specs.Reading.{readList, done}
+use Rattle.text.specs.Text.{decimalOf}
 use Rattle.display.specs.Listing.{listingOf, listedOf, listedIn}
 use Rattle.display.specs.Numbers.{listedNumber, listedLength}
 use Rattle.display.specs.Examples.{linesE}
+
+-- what digits stand for, v being what those before them stand for
+abbrev pub valueFrom : ℕ → List ℕ → ℕ
+valueFrom v [] = v
+valueFrom v (d ∷ ds) = valueFrom (v * 10 + (d - 48)) ds
+
+-- a number of 32 bits is printed as digits that stand for it, with no 0 in front
+pub record NumbersRead : Type 0 where
+  pub value : (n : ℕ) → n < 2 ^ 32 → valueFrom 0 (decimalOf n) ≡ n
+  pub no-zero-in-front : (n : ℕ) → 1 ≤ n → n < 2 ^ 32 → getD (decimalOf n) 0 48 ≡ 48 → ⊥
 
 -- done, or 9 exactly for a buffer of fewer bytes than the text has; no text has more than the programs lend
 pub record ListingDue : Type 0 where

@@ -1,6 +1,6 @@
 -- All promises in one record. It is proved in proofs/All.antt. (M is the resources of the memory that programs run in: any.)
 use Rattle.promises.specs.Demands.{Demand1, Demand2, Demand3}
-use Rattle.promises.specs.Listing.{PlansCounted, YearE}
+use Rattle.promises.specs.Listing.{NumbersRead, PlansCounted, YearE}
 use Rattle.promises.specs.Table.{TableHolds}
 use Rattle.promises.specs.Answering.{EachAnswers}
 use Rattle.promises.specs.Unique.{OneResult}
@@ -17,6 +17,7 @@ pub record Promises (M : Type 1) : Type 2 where
   pub table-holds : TableHolds
   pub year-e : YearE
   pub plans-counted : PlansCounted
+  pub numbers-read : NumbersRead
   pub one-result : OneResult
   pub each-narrowing : EachNarrowing
   pub filtering-narrows : FilteringNarrows
