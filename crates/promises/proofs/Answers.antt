@@ -35,39 +35,40 @@ no-sound y e s = true≢false (sym (sound-to y s) ∙ e)
 
 -- ---- writing
 
-data Wrote (y : Year) (room : ℕ) : Writing → Type 0 where
-  unsound : (Sound y → ⊥) → Wrote y room writing.Unsound
-  short : Sound y → room < length (recordsOf y) → Wrote y room writing.Short
-  done : Sound y → length (recordsOf y) ≤ room → Wrote y room writing.Done
+-- how a writing into a buffer of `room` bytes ends
+data WriteEnds (y : Year) (room : ℕ) : Writing → Type 0 where
+  unsound : (Sound y → ⊥) → WriteEnds y room writing.Unsound
+  short : Sound y → room < length (recordsOf y) → WriteEnds y room writing.Short
+  done : Sound y → length (recordsOf y) ≤ room → WriteEnds y room writing.Done
 
-wrote : (y : Year) (room : ℕ) → Wrote y room (writeAnswer y room)
+write-ends : (y : Year) (room : ℕ) → WriteEnds y room (writeAnswer y room)
 unfolding writeAnswer
-wrote y room = go (isSound y) refl (leb (length (recordsOf y)) room) refl
+write-ends y room = go (isSound y) refl (leb (length (recordsOf y)) room) refl
   where
     go : (a : Bool) → isSound y ≡ a → (b : Bool) → leb (length (recordsOf y)) room ≡ b
-        → Wrote y room (choose a (choose b writing.Done writing.Short) writing.Unsound)
+        → WriteEnds y room (choose a (choose b writing.Done writing.Short) writing.Unsound)
     go false p b q = unsound (no-sound y p)
     go true p false q = short (sound-of y p) (leb-false _ _ q)
     go true p true q = done (sound-of y p) (leb-true _ _ q)
 
 pub writing-due : WritingDue
 writing-due = record {
-  unsound = λ y room. eight (wrote y room);
-  short = λ y room. nine (wrote y room);
-  done = λ y room. none (wrote y room);
+  unsound = λ y room. eight (write-ends y room);
+  short = λ y room. nine (write-ends y room);
+  done = λ y room. none (write-ends y room);
 }
   where
-    eight : {y : Year} {room : ℕ} {w : Writing} → Wrote y room w → (writingNumber w ≡ 8) ↔ (Sound y → ⊥)
+    eight : {y : Year} {room : ℕ} {w : Writing} → WriteEnds y room w → (writingNumber w ≡ 8) ↔ (Sound y → ⊥)
     eight (unsound d) = (λ q. d, λ z. refl)
     eight (short s h) = (λ q. absurd (omega arith), λ z. absurd (z s))
     eight (done s h) = (λ q. absurd (omega arith), λ z. absurd (z s))
 
-    nine : {y : Year} {room : ℕ} {w : Writing} → Wrote y room w → (writingNumber w ≡ 9) ↔ (Sound y × (room < length (recordsOf y)))
+    nine : {y : Year} {room : ℕ} {w : Writing} → WriteEnds y room w → (writingNumber w ≡ 9) ↔ (Sound y × (room < length (recordsOf y)))
     nine (unsound d) = (λ q. absurd (omega arith), λ z. absurd (d (z .0)))
     nine (short s h) = (λ q. (s, h), λ z. refl)
     nine (done s h) = (λ q. absurd (omega arith), λ z. absurd (omega (arith, z .1)))
 
-    none : {y : Year} {room : ℕ} {w : Writing} → Wrote y room w → (writingNumber w ≡ 0) ↔ (Sound y × (length (recordsOf y) ≤ room))
+    none : {y : Year} {room : ℕ} {w : Writing} → WriteEnds y room w → (writingNumber w ≡ 0) ↔ (Sound y × (length (recordsOf y) ≤ room))
     none (unsound d) = (λ q. absurd (omega arith), λ z. absurd (d (z .0)))
     none (short s h) = (λ q. absurd (omega arith), λ z. absurd (omega (arith, z .1)))
     none (done s h) = (λ q. (s, h), λ z. refl)

@@ -1,18 +1,19 @@
 -- To be read: all that is promised, as statements; their proofs are in proofs/ and need not be read.
--- Read Demands, Table and Unique first, then the words they are written in (Narrowings, Rounds, Sequence, OnePlacing), then the rest.
+-- Read Demands first, with what its first demand is made of (Refusals to Boundary) and the words of the other two (Rounds to
+-- OnePlacing); then Table, Unique and Answering; then the rest. Narrowings serves demands 1 and 3.
 pub mod Demands
-pub mod Table
-pub mod Unique
-pub mod Answering
+pub mod Refusals
+pub mod Answers
 pub mod Narrowings
+pub mod ImbalancePlan
+pub mod Listing
+pub mod Codes
+pub mod Boundary
 pub mod Rounds
 pub mod Sequence
 pub mod OnePlacing
-pub mod ImbalancePlan
+pub mod Table
+pub mod Unique
+pub mod Answering
 pub mod SpareRoom
-pub mod Boundary
-pub mod Refusals
-pub mod Answers
-pub mod Codes
-pub mod Listing
 pub mod Promises
