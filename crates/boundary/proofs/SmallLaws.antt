@@ -1,17 +1,21 @@
 -- Values that answers carry are small: the place of a refused record, and an imbalance.
-use Prim.Native.Nat.{ℕ, zero, suc, _≤_, _<_}
+use Prim.Native.Nat.{ℕ, _*_, _≤_, _<_}
 use mathlib.Core.Bool.{Bool, true, false}
 use mathlib.Core.List.{List}
 use mathlib.Core.Path.{_≡_, refl, ap}
 use native.Mathlib.Omega.{arith}
 use Rattle.theory.specs.Choice.{choose}
 use Rattle.year.specs.Sound.{isSound, Sound}
-use Rattle.year.specs.Sums.{fixedCredits}
-use Rattle.theory.specs.Largest.{largest}
-use Rattle.year.specs.Imbalance.{spreadOf, onePlan, imbalanceOf}
+use Rattle.year.specs.Sums.{fixedCredits, allCredits, allPlaced}
+use Rattle.theory.specs.Pairs.{square}
+use Rattle.theory.specs.Sum.{sum}
+use Rattle.theory.specs.Tests.{all}
+use Rattle.theory.proofs.TestLaws.{and-true}
+use Rattle.year.specs.Imbalance.{fitsAt, onePlan, imbalanceBy, imbalanceOf}
 use Rattle.year.specs.Numbers.{imbalanceValue}
 use Rattle.year.proofs.SoundLaws.{sound-of}
-use Rattle.year.proofs.SumLaws.{all-credits-le, possible-le}
+use Rattle.year.proofs.OnePlacing.{placed-total}
+use Rattle.year.proofs.ImbalanceLaws.{imbalance-most}
 use Rattle.year.specs.declared.Year.{Year}
 use Rattle.year.specs.declared.Measured.the-variants.{Imbalance, Unsound, Unsettled}
 use Rattle.records.specs.declared.Fault.{Fault}
@@ -31,27 +35,17 @@ answer-small s = go (readList s .answer) refl
     go Done e = omega arith
     go (Refused f k) e = place-small s f k e
 
--- a term of a sound year has 64,000 credits at most
-largest-le : (n m : ℕ) (f : ℕ → ℕ) → ((k : ℕ) → f k ≤ m) → largest n f ≤ m
-unfolding largest
-largest-le zero m f h = h 0
-largest-le (suc n) m f h = omega (arith, largest-le n m f h, h n)
-
-spread-small : (y : Year) → Sound y → spreadOf y ≤ 64000
-unfolding spreadOf
-spread-small y s =
-    omega (
-      arith,
-      largest-le (y .terms) 64000 (fixedCredits y) (λ k. omega (arith, possible-le y k, all-credits-le y s, s .courses-most)),
-    )
-
-pub imbalance-small : (y : Year) (v : ℕ) → imbalanceOf y ≡ Imbalance v → v < 4294967296
-unfolding imbalanceOf
-imbalance-small y v e = go (isSound y) refl (onePlan y) e
+-- 64 courses of 1,000 credits in one of 16 terms, and no more
+pub imbalance-small : (y : Year) (v : ℕ) → imbalanceOf y ≡ Imbalance v → v ≤ 15 * square 64000
+unfolding imbalanceOf onePlan
+imbalance-small y v e = go (isSound y) refl (onePlan y) refl e
   where
-    go : (a : Bool) → isSound y ≡ a → (b : Bool) → choose a (choose b (Imbalance (spreadOf y)) Unsettled) Unsound ≡ Imbalance v → v < 4294967296
-    go true p true e =
-        let is : spreadOf y ≡ v = ap imbalanceValue e in
-        omega (arith, spread-small y (sound-of y p))
-    go true p false e = let is : 0 ≡ v = ap imbalanceValue e in omega arith
-    go false p b e = let is : 0 ≡ v = ap imbalanceValue e in omega arith
+    go : (a : Bool) → isSound y ≡ a → (b : Bool) → onePlan y ≡ b
+        → choose a (choose b (Imbalance (imbalanceBy y (fixedCredits y))) Unsettled) Unsound ≡ Imbalance v → v ≤ 15 * square 64000
+    go true p true q e =
+        let s = sound-of y p in
+        let is : imbalanceBy y (fixedCredits y) ≡ v = ap imbalanceValue e in
+        let total : sum (y .terms) (fixedCredits y) ≡ allCredits y = placed-total y s (and-true (allPlaced y) (all (y .terms) (fitsAt y)) q .0) in
+        omega (arith, is, imbalance-most y (fixedCredits y) total s)
+    go true p false q e = let is : 0 ≡ v = ap imbalanceValue e in omega arith
+    go false p b q e = let is : 0 ≡ v = ap imbalanceValue e in omega arith

@@ -4,17 +4,15 @@ use Prim.Native.Nat.{ℕ, _+_, _*_}
 use mathlib.Core.List.{List, [], _∷_, _++_}
 use mathlib.Core.Path.{_≡_, refl}
 use lib.ListN.{drop, replicate, set, take}
-use Rattle.theory.specs.Largest.{smallest}
 use Rattle.year.specs.Year.{termOf, courseOf}
 use Rattle.year.specs.Narrow.{placeOf, barOf, raiseLowCreditsOf, lowerHighCreditsOf, raiseLowCountOf, lowerHighCountOf}
-use Rattle.year.specs.Imbalance.{onePlan, spreadOf, imbalanceOf}
-use Rattle.year.specs.Examples.{settledE, crowdedE}
+use Rattle.year.specs.Imbalance.{onePlan, imbalanceOf}
+use Rattle.year.specs.Examples.{yearOf, settledE, crowdedE}
 use Rattle.year.specs.declared.Term.{Term}
 use Rattle.year.specs.declared.Course.{Course}
 use Rattle.records.specs.Reading.{termRecord, courseRecord, recordAt, readTo, readList}
 use Rattle.records.specs.Writing.{joined, recordsOf, written}
 use Rattle.records.specs.Examples.{bytesE, padded}
-use Rattle.rules.specs.Examples.{yearOf}
 use Rattle.filter.specs.Computing.{computing as computingFilter}
 use Rattle.boundary.specs.Calls.{readCode, imbalanceCode, filterCode, filterOut, narrowOf, narrowCode, narrowOut}
 
@@ -22,7 +20,7 @@ use Rattle.boundary.specs.Calls.{readCode, imbalanceCode, filterCode, fi
 unfoldable computing : Unit {0}
 unfolding computingFilter readList readTo recordAt termRecord courseRecord recordsOf joined written readCode imbalanceCode filterCode
     filterOut narrowOf narrowCode narrowOut placeOf barOf raiseLowCreditsOf lowerHighCreditsOf raiseLowCountOf lowerHighCountOf
-    imbalanceOf onePlan spreadOf smallest
+    imbalanceOf onePlan
 computing = tt
 
 -- ---- lists and buffers

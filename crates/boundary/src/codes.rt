@@ -6,7 +6,7 @@ use year::Measured;
 use year::Narrowing;
 use year::Year;
 ghost use mathlib.Core.Path.{_≡_};
-ghost use Prim.Native.Nat.{_<_};
+ghost use Prim.Native.Nat.{_<_, _^_};
 ghost use Rattle.year.specs.Imbalance.{imbalanceOf};
 ghost use Rattle.records.specs.Numbers.{readingPlace};
 ghost use Rattle.records.specs.declared.Reading.the-variants as reading;
@@ -15,9 +15,9 @@ ghost use Rattle.boundary.specs.Packed.{told, packed, readingTold, narro
 // The answer to a buffer that is too short.
 pub const SHORT: u64 = 9;
 
-// Number, detail and value in one.
+// Number, detail and value in one. The detail may pass its byte here, so the value keeps one of its 48 bits free.
 fn pack(number: u64, detail: u32, value: u64) -> u64
-    requires { ⌜ (number < 256) × (value < 4294967296) ⌝ }
+    requires { ⌜ (number < 256) × (value < 2 ^ 47) ⌝ }
     ensures { λ r. ⌜ r ≡ packed (told number detail value) ⌝ }
 {
     number + detail as u64 * 256 + value * 65536

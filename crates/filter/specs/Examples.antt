@@ -5,9 +5,8 @@ use Prim.Native.Nat.{ℕ}
 use mathlib.Core.List.{[], _∷_}
 use mathlib.Core.Path.{_≡_, refl}
 use Rattle.year.specs.Year.{termOf, courseOf, withTerm}
-use Rattle.year.specs.Examples.{yearE}
+use Rattle.year.specs.Examples.{yearOf, yearE}
 use Rattle.year.specs.declared.Year.{Year}
-use Rattle.rules.specs.Examples.{yearOf}
 use Rattle.filter.specs.Filter.{filtered, filterOf}
 use Rattle.filter.specs.declared.Answer.the-variants.{Settled, Open, NoPlan}
 use Rattle.filter.specs.Computing.{computing}

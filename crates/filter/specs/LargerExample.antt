@@ -4,7 +4,7 @@ use mathlib.Core.Path.{_≡_, refl}
 use Rattle.year.specs.Year.{termOf, courseOf}
 use Rattle.year.specs.declared.Course.{Course}
 use Rattle.year.specs.declared.Year.{Year}
-use Rattle.rules.specs.Examples.{yearOf}
+use Rattle.year.specs.Examples.{yearOf}
 use Rattle.filter.specs.Filter.{filtered, filterOf}
 use Rattle.filter.specs.declared.Answer.the-variants.{Open}
 use Rattle.filter.specs.Computing.{computing}

@@ -3,6 +3,7 @@ use Rattle.promises.specs.Promises.{Promises}
 use Rattle.promises.proofs.Rounds.{filtering-narrows}
 use Rattle.promises.proofs.Narrowings.{each-narrowing}
 use Rattle.promises.proofs.SettledPlan.{one-placing}
+use Rattle.promises.proofs.ImbalancePlan.{imbalance-means}
 use Rattle.promises.proofs.SpareRoom.{spare-room}
 use Rattle.promises.proofs.Decimal.{numbers-read}
 use Rattle.promises.proofs.Listing.{plans-counted, year-e-whole}
@@ -17,6 +18,7 @@ promises M = record {
   demand-1 = demand-1;
   demand-2 = demand-2;
   demand-3 = demand-3;
+  imbalance-means = imbalance-means;
   year-e = year-e-whole;
   plans-counted = plans-counted;
   numbers-read = numbers-read;

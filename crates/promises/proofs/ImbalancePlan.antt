@@ -1,33 +1,35 @@
--- The imbalance: given exactly where every course has one term and that placing is a plan, and what it is.
-use Prim.Native.Nat.{ℕ}
+-- The imbalance: given exactly where every course has one term and that placing is a plan; what it is, and what it means.
+use Prim.Native.Nat.{ℕ, _*_, _^_, _≤_, _<_}
 use mathlib.Core.Bool.{Bool, true, false, true≢false}
 use mathlib.Core.Logic.{_↔_, _⊎_, inl, inr}
 use mathlib.Core.Path.{_≡_, refl, sym, ap, fun-ext, _∙_}
 use native.Mathlib.Omega.{arith}
 use lib.Dec.{ltb}
 use borrow.Author.Tests.{lt-ltb}
+use Rattle.theory.specs.Pairs.{square}
 use Rattle.theory.specs.Tests.{all}
 use Rattle.theory.proofs.TestLaws.{all-of, and-true, and-of}
 use Rattle.year.specs.Year.{termAt, courseAt, lists}
 use Rattle.year.specs.Sums.{fixedCredits, fixedCount, allPlaced}
-use Rattle.year.specs.Imbalance.{fits, fitsAt, onePlan, spreadOf, imbalanceOf}
-use Rattle.year.specs.Plans.{Placing, creditsIn, Plan, stands, fitsIn, isPlan}
+use Rattle.year.specs.Imbalance.{fits, fitsAt, onePlan, imbalanceOf}
+use Rattle.year.specs.Plans.{Placing, creditsIn, Plan, PlacedBy, thePlacing, stands, fitsIn, isPlan}
 use Rattle.year.specs.Sound.{Sound, isSound}
 use Rattle.year.specs.declared.Year.{Year}
 use Rattle.year.specs.Numbers.{imbalanceNumber, imbalanceValue}
 use Rattle.year.specs.declared.Measured.{Measured}
 use Rattle.year.specs.declared.Measured.the-variants.{Imbalance, Unsound, Unsettled}
 use Rattle.year.proofs.SoundLaws.{sound-of, sound-to}
+use Rattle.year.proofs.OnePlacing.{credits-fixed, count-fixed, placed-listed, placed-within, placed-only, placed-by, all-placed, plan-total}
+use Rattle.year.proofs.ImbalanceLaws.{imbalance-whole, imbalance-pairs, imbalance-zero}
+use Rattle.boundary.proofs.SmallLaws.{imbalance-small}
+use Rattle.year.specs.Examples.{imbalances}
 use Rattle.year.proofs.PlanCount.{plan-of-test, test-of-plan}
-use Rattle.promises.specs.OnePlacing.{PlacedBy, thePlacing}
-use Rattle.promises.specs.ImbalancePlan.{spreadIn, ImbalanceDue}
-use Rattle.promises.proofs.OnePlacing.{placed-within, placed-listed, credits-are, counts-are}
-use Rattle.promises.proofs.SettledPlan.{placed-by, all-placed}
+use Rattle.promises.specs.ImbalancePlan.{imbalanceIn, ImbalanceDue, ImbalanceMeans}
 
 module _ (y : Year) (p : Placing) (s : Sound y) (h : PlacedBy y p) where
   -- what is fixed in a term is what the placing puts there
   fits-same : fitsAt y ≡ fitsIn y p
-  fits-same = fun-ext (λ k. ap (λ c. fits (termAt y k) c (fixedCount y k)) (credits-are y p h k .0) ∙ ap (fits (termAt y k) (creditsIn y p k)) (counts-are y p h k .0))
+  fits-same = fun-ext (λ k. ap (λ c. fits (termAt y k) c (fixedCount y k)) (credits-fixed y p h k) ∙ ap (fits (termAt y k) (creditsIn y p k)) (count-fixed y p h k))
 
   one-plan : (onePlan y ≡ true) ↔ Plan y p
   unfolding onePlan isPlan
@@ -43,10 +45,10 @@ module _ (y : Year) (p : Placing) (s : Sound y) (h : PlacedBy y p) where
         (rw fits-same (and-true (all (y .courses) (stands y p)) (all (y .terms) (fitsIn y p)) (test-of-plan y p q) .1)),
   )
 
-  imbalance-is : Plan y p → imbalanceOf y ≡ Imbalance (spreadIn y p)
-  unfolding imbalanceOf spreadOf
+  imbalance-is : Plan y p → imbalanceOf y ≡ Imbalance (imbalanceIn y p)
+  unfolding imbalanceOf
   imbalance-is q =
-      let e : fixedCredits y ≡ creditsIn y p = fun-ext (λ k. credits-are y p h k .0) in
+      let e : fixedCredits y ≡ creditsIn y p = fun-ext (credits-fixed y p h) in
       rw (sound-to y s, one-plan .1 q, e) refl
 
   imbalance-refused : (Plan y p → ⊥) → imbalanceOf y ≡ Unsettled
@@ -71,7 +73,7 @@ imbalance-unsound y e = rw e refl
 data Case (y : Year) : Type 0 where
   unsound : (Sound y → ⊥) → imbalanceOf y ≡ Unsound → Case y
   unsettled : Sound y → (allPlaced y ≡ false) ⊎ (Plan y (thePlacing y) → ⊥) → imbalanceOf y ≡ Unsettled → Case y
-  settled : Sound y → allPlaced y ≡ true → Plan y (thePlacing y) → imbalanceOf y ≡ Imbalance (spreadIn y (thePlacing y)) → Case y
+  settled : Sound y → allPlaced y ≡ true → Plan y (thePlacing y) → imbalanceOf y ≡ Imbalance (imbalanceIn y (thePlacing y)) → Case y
 
 case-of : (y : Year) → Case y
 case-of y = go (isSound y) refl (allPlaced y) refl (onePlan y) refl
@@ -99,7 +101,8 @@ imbalance-due = record {
   unsound = λ y. eight y (case-of y);
   unsettled = λ y. fourteen y (case-of y);
   given = λ y. none y (case-of y);
-  value = λ y. worth y (case-of y);
+  only = λ y n p q. alone y (case-of y) n p q;
+  value = λ y n p q. worth y (case-of y) n p q;
   no-value = λ y. nothing y (case-of y);
 }
   where
@@ -118,12 +121,37 @@ imbalance-due = record {
     none y (unsettled s d e) = (λ q. absurd (omega (arith, number-is y _ e 0 q)), λ z. absurd (not-both y (z .1) (z .2) d))
     none y (settled s a p e) = (λ q. (s, a, p), λ z. ap imbalanceNumber e)
 
-    worth : (y : Year) → Case y → imbalanceNumber (imbalanceOf y) ≡ 0 → imbalanceValue (imbalanceOf y) ≡ spreadIn y (thePlacing y)
-    worth y (unsound d e) q = absurd (omega (arith, number-is y _ e 0 q))
-    worth y (unsettled s d e) q = absurd (omega (arith, number-is y _ e 0 q))
-    worth y (settled s a p e) q = ap imbalanceValue e
+    alone : (y : Year) → Case y → imbalanceNumber (imbalanceOf y) ≡ 0 → (p : Placing) → Plan y p → (i : ℕ) → i < y .courses → p i ≡ thePlacing y i
+    alone y (unsound d e) n p q = absurd (omega (arith, number-is y _ e 0 n))
+    alone y (unsettled s d e) n p q = absurd (omega (arith, number-is y _ e 0 n))
+    alone y (settled s a t e) n p q = placed-only y (thePlacing y) (placed-by y a) p q
+
+    worth : (y : Year) → Case y → imbalanceNumber (imbalanceOf y) ≡ 0 → (p : Placing) → Plan y p → imbalanceValue (imbalanceOf y) ≡ imbalanceIn y p
+    worth y (unsound d e) n p q = absurd (omega (arith, number-is y _ e 0 n))
+    worth y (unsettled s d e) n p q = absurd (omega (arith, number-is y _ e 0 n))
+    worth y (settled s a t e) n p q = ap imbalanceValue (imbalance-is y p s (λ i l. placed-by y a i l ∙ ap (λ k. 2 ^ k) (sym (placed-only y (thePlacing y) (placed-by y a) p q i l))) q)
 
     nothing : (y : Year) → Case y → (imbalanceNumber (imbalanceOf y) ≡ 0 → ⊥) → imbalanceValue (imbalanceOf y) ≡ 0
     nothing y (unsound d e) n = ap imbalanceValue e
     nothing y (unsettled s d e) n = ap imbalanceValue e
     nothing y (settled s a p e) n = absurd (n (ap imbalanceNumber e))
+
+-- ---- what it means
+
+most : (y : Year) → imbalanceValue (imbalanceOf y) ≤ 15 * square 64000
+most y = go (imbalanceOf y) refl
+  where
+    go : (m : Measured) → imbalanceOf y ≡ m → imbalanceValue m ≤ 15 * square 64000
+    go (Imbalance v) e = imbalance-small y v e
+    go Unsound e = omega arith
+    go Unsettled e = omega arith
+
+pub imbalance-means : ImbalanceMeans
+imbalance-means = record {
+  whole = λ y p q. imbalance-whole y (creditsIn y p) (plan-total y p q);
+  pair-by-pair = λ y p q. imbalance-pairs y (creditsIn y p) (plan-total y p q);
+  zero-when-equal = λ y p q. imbalance-zero y (creditsIn y p) (plan-total y p q);
+  most = most;
+  fits = λ y. omega (arith, most y);
+  by-computation = imbalances;
+}

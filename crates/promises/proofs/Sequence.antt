@@ -11,7 +11,7 @@ use lib.ListN.{length, take}
 use borrow.Author.Tests.{eqb-true}
 use Rattle.theory.proofs.ChoiceLaws.{choose-case}
 use Rattle.year.specs.Numbers.{narrowingNumber}
-use Rattle.year.specs.Plans.{Placing, Plan}
+use Rattle.year.specs.Plans.{Placing, Plan, thePlacing}
 use Rattle.year.specs.Sound.{Sound}
 use Rattle.year.specs.declared.Year.{Year}
 use Rattle.records.specs.Numbers.{writingNumber}
@@ -26,7 +26,6 @@ use Rattle.rules.specs.Narrower.{Narrower}
 use Rattle.rules.proofs.Narrows.{narrower-self, narrower-then}
 use Rattle.promises.specs.Narrowings.{Narrow, place, bar, raiseLowCredits, lowerHighCredits, raiseLowCount, lowerHighCount, narrow, Meets}
 use Rattle.promises.specs.Sequence.{Call, narrowBy, filter, writeAndRead, result, readBack, after, Asks, MeetsAll, PlanThatMeets}
-use Rattle.promises.specs.OnePlacing.{thePlacing}
 use Rattle.promises.proofs.Narrowings.{each-narrowing, narrow-narrower}
 use Rattle.promises.proofs.RoundsKept.{filter-kept}
 use Rattle.promises.proofs.SettledPlan.{settled-one}

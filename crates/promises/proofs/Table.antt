@@ -1,12 +1,11 @@
 -- The paper's table, by computation.
 use mathlib.Core.Path.{refl}
-use Rattle.theory.specs.Largest.{smallest}
 use Rattle.year.specs.Narrow.{barOf}
-use Rattle.year.specs.Imbalance.{onePlan, spreadOf, imbalanceOf}
+use Rattle.year.specs.Imbalance.{onePlan, imbalanceOf}
 use Rattle.records.specs.Reading.{termRecord, courseRecord, recordAt, readTo, readList}
 use Rattle.filter.specs.Computing.{computing}
 use Rattle.promises.specs.Table.{TableHolds}
 
 pub table-holds : TableHolds
-unfolding computing barOf smallest onePlan spreadOf imbalanceOf termRecord courseRecord recordAt readTo readList
+unfolding computing barOf onePlan imbalanceOf termRecord courseRecord recordAt readTo readList
 table-holds = (refl, (refl, (refl, (refl, (refl, (refl, (refl, (refl, (refl, (refl, (refl, (refl, tt))))))))))))

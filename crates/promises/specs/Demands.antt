@@ -6,7 +6,7 @@ use mathlib.Core.Logic.{_↔_}
 use mathlib.Core.Path.{_≡_}
 use lib.ListN.{length, take, drop}
 use Rattle.year.specs.Year.{emptyYear}
-use Rattle.year.specs.Plans.{Placing, Plan}
+use Rattle.year.specs.Plans.{Placing, Plan, thePlacing}
 use Rattle.year.specs.Sound.{Sound}
 use Rattle.year.specs.Sums.{allPlaced}
 use Rattle.year.specs.Numbers.{narrowingNumber}
@@ -22,7 +22,6 @@ use Rattle.filter.specs.declared.Filtered.{Filtered}
 use Rattle.promises.specs.Narrowings.{Narrow, narrow, numberDue}
 use Rattle.promises.specs.Rounds.{Filtering, MarksTell, Rested}
 use Rattle.promises.specs.Sequence.{Call, filter, result, after, PlanThatMeets}
-use Rattle.promises.specs.OnePlacing.{thePlacing}
 use Rattle.promises.specs.Refusals.{ReadingDue}
 use Rattle.promises.specs.Answers.{SoundTold, WritingDue, FilteringDue}
 use Rattle.promises.specs.ImbalancePlan.{ImbalanceDue}

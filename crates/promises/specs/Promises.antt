@@ -1,5 +1,6 @@
 -- All promises in one record. It is proved in proofs/All.antt. (M is the resources of the memory that programs run in: any.)
 use Rattle.promises.specs.Demands.{Demand1, Demand2, Demand3}
+use Rattle.promises.specs.ImbalancePlan.{ImbalanceMeans}
 use Rattle.promises.specs.Listing.{NumbersRead, PlansCounted, YearE}
 use Rattle.promises.specs.Table.{TableHolds}
 use Rattle.promises.specs.Answering.{EachAnswers}
@@ -15,6 +16,7 @@ pub record Promises (M : Type 1) : Type 2 where
   pub demand-2 : Demand2
   pub demand-3 : Demand3
   pub table-holds : TableHolds
+  pub imbalance-means : ImbalanceMeans
   pub year-e : YearE
   pub plans-counted : PlansCounted
   pub numbers-read : NumbersRead

@@ -8,11 +8,11 @@ use Rattle.year.specs.Year.{termOf, courseOf, lowCredits, highCredits, lowCount
 use Rattle.year.specs.Narrow.{barOf}
 use Rattle.year.specs.Imbalance.{imbalanceOf}
 use Rattle.year.specs.Numbers.{narrowingNumber, imbalanceNumber, imbalanceValue}
-use Rattle.year.specs.Examples.{yearE}
+use Rattle.year.specs.Examples.{yearOf, yearE}
 use Rattle.year.specs.declared.Year.{Year}
 use Rattle.records.specs.Numbers.{readingNumber}
 use Rattle.records.specs.Reading.{readList}
-use Rattle.rules.specs.Examples.{yearOf, six, seven, three, leastCount, largestQuotient}
+use Rattle.rules.specs.Examples.{six, seven, three, leastCount, largestQuotient}
 use Rattle.filter.specs.Filter.{filterOf}
 use Rattle.filter.specs.Numbers.{filterNumber, filterRule, filterRounds, isSettled}
 use Rattle.filter.specs.declared.Filtered.{Filtered}

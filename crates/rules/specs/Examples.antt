@@ -1,11 +1,11 @@
 -- Rules by themselves, by computation: rows 6 to 9 of the paper's table, each rule at a small term, and the paper's traps at the
 -- rule they are about.
 use Prim.Native.Nat.{ℕ, _+_, _/_}
-use mathlib.Core.List.{List, [], _∷_, _++_}
+use mathlib.Core.List.{List, [], _∷_}
 use mathlib.Core.Path.{_≡_, refl}
-use lib.ListN.{length, replicate, take}
-use Rattle.year.specs.Year.{termOf, courseOf, zeroTerm, zeroCourse, list}
+use Rattle.year.specs.Year.{termOf, courseOf, list}
 use Rattle.theory.specs.Largest.{largest}
+use Rattle.year.specs.Examples.{yearOf, atLeast}
 use Rattle.year.specs.declared.Term.{Term}
 use Rattle.year.specs.declared.Course.{Course}
 use Rattle.year.specs.declared.Year.{Year}
@@ -15,18 +15,6 @@ use Rattle.rules.specs.Spares.{rule6, rule7, rule8, rule9}
 use Rattle.rules.specs.Packing.{room, shares, roundedUp}
 use Rattle.rules.specs.Round.{round}
 use Rattle.rules.specs.Computing.{computing}
-
--- ---- years by their terms and courses
-
-abbrev pub padded : {A : Type 0} → ℕ → A → List A → List A
-padded n a l = take n (l ++ replicate n a)
-
-abbrev pub yearOf : List Term → List Course → Year
-yearOf ts cs = record { terms = length ts; courses = length cs; term = padded 16 zeroTerm ts; course = padded 64 zeroCourse cs }
-
--- a term with the widest bounds but for its low credits and its low count
-abbrev pub atLeast : ℕ → ℕ → Term
-atLeast credits count = termOf credits 64000 count 64
 
 -- ---- rows 6 and 7: least counts
 

@@ -6,6 +6,7 @@ pub mod TabLaws
 pub mod BitLaws
 pub mod FoldLaws
 pub mod LargestLaws
+pub mod PairLaws
 pub mod LoadLaws
 pub mod Counting
 pub mod WalkLaws

@@ -3,6 +3,7 @@ pub mod Choice
 pub mod Sum
 pub mod Others
 pub mod Largest
+pub mod Pairs
 pub mod Tests
 pub mod Tab
 pub mod Bits

@@ -5,14 +5,14 @@ use year::Sums;
 use year::Term;
 use year::Year;
 use year::sound;
+ghost use mathlib.Core.Bool.{true};
 ghost use mathlib.Core.Path.{_≡_};
 ghost use Rattle.theory.specs.Tab.{tab};
 ghost use Rattle.theory.specs.Tests.{all};
 ghost use Rattle.year.specs.Sound.{Sound};
-ghost use Rattle.year.specs.Sums.{fixedCredits};
+ghost use Rattle.year.specs.Sums.{fixedCredits, allPlaced};
 ghost use Rattle.year.specs.SumsOf.{sumsAt};
-ghost use Rattle.year.specs.Imbalance.{fits, fitsAt, imbalanceOf};
-ghost use Rattle.theory.specs.Largest.{largest, smallest};
+ghost use Rattle.year.specs.Imbalance.{fits, fitsAt, imbalanceBy, imbalanceOf};
 
 // The sums are within the term's bounds.
 fn fits(t: Term, s: Sums) -> bool
@@ -37,32 +37,22 @@ fn all_fit(y: Year, s: [Sums; Year::TERMS]) -> bool
     good
 }
 
-// The credits of the heaviest term.
-fn heaviest(y: Year, s: [Sums; Year::TERMS]) -> Credits
-    requires { ⌜ Sound y ⌝ }
+// Terms times the sum of squared term credits, less the square of all credits: those of the terms together, since every course
+// has one term.
+fn imbalance_by(y: Year, s: [Sums; Year::TERMS]) -> u64
+    requires { ⌜ Sound y × (allPlaced y ≡ true) ⌝ }
     requires { ⌜ s ≡ tab 16 (sumsAt y) ⌝ }
-    ensures { λ r. ⌜ r .0 ≡ largest (y .terms) (fixedCredits y) ⌝ }
+    ensures { λ r. ⌜ r ≡ imbalanceBy y (fixedCredits y) ⌝ }
 {
-    let mut most = Credits(s[0].fixed.0);
+    let mut all = Credits(0);
+    let mut squares: u64 = 0;
     for k in 0..y.terms {
         let x = s[k].fixed.0;
-        most.0 = if most.0 < x { x } else { most.0 };
+        all.0 += x;
+        squares += x as u64 * x as u64;
     }
-    most
-}
-
-// The credits of the lightest term.
-fn lightest(y: Year, s: [Sums; Year::TERMS]) -> Credits
-    requires { ⌜ Sound y ⌝ }
-    requires { ⌜ s ≡ tab 16 (sumsAt y) ⌝ }
-    ensures { λ r. ⌜ r .0 ≡ smallest (y .terms) (fixedCredits y) ⌝ }
-{
-    let mut least = Credits(s[0].fixed.0);
-    for k in 0..y.terms {
-        let x = s[k].fixed.0;
-        least.0 = if x < least.0 { x } else { least.0 };
-    }
-    least
+    let whole = all.0 as u64;
+    y.terms as u64 * squares - whole * whole
 }
 
 // The imbalance of the year as it stands.
@@ -76,7 +66,6 @@ pub fn imbalance(y: Year) -> Measured
     if !(crate::all_placed(y) & all_fit(y, s)) {
         return Measured::Unsettled;
     }
-    let most = heaviest(y, s);
-    let least = lightest(y, s);
-    Measured::Imbalance((most.0 - least.0) as u64)
+    let v = imbalance_by(y, s);
+    Measured::Imbalance(v)
 }

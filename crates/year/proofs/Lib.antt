@@ -4,3 +4,5 @@ pub mod CheckLaws
 pub mod DoorLaws
 pub mod SumLaws
 pub mod PlanCount
+pub mod OnePlacing
+pub mod ImbalanceLaws

@@ -1,34 +1,41 @@
 -- Closed examples, by computation: year E of the paper and its plans, and each answer of the narrowings and of the imbalance.
-use Prim.Native.Nat.{ℕ}
+use Prim.Native.Nat.{ℕ, suc, _*_, _^_}
 use mathlib.Core.Bool.{true, false}
-use mathlib.Core.List.{[], _∷_}
+use mathlib.Core.List.{List, [], _∷_, _++_}
 use mathlib.Core.Path.{_≡_, refl}
-use lib.ListN.{replicate}
+use lib.ListN.{length, replicate, take}
 use Rattle.theory.specs.Sum.{sum}
+use Rattle.theory.specs.Pairs.{square}
 use Rattle.theory.specs.Tests.{all, any}
 use Rattle.theory.specs.Order.{keep}
 use Rattle.year.specs.Year.{termOf, courseOf, zeroTerm, zeroCourse, emptyYear, placed, withList, withTerm}
 use Rattle.year.specs.Sound.{isSound}
-use Rattle.year.specs.Sums.{fixedCredits, fixedCount, isPlaced, allPlaced}
+use Rattle.year.specs.Sums.{fixedCredits, fixedCount, allCredits, isPlaced, allPlaced}
 use Rattle.year.specs.Tight.{creditsWithin, countsWithin}
 use Rattle.year.specs.Narrow.{answered, placeOf, barOf, raiseLowCreditsOf, lowerHighCreditsOf, raiseLowCountOf, lowerHighCountOf}
-use Rattle.theory.specs.Largest.{largest, smallest}
-use Rattle.year.specs.Imbalance.{onePlan, spreadOf, imbalanceOf}
+use Rattle.year.specs.Imbalance.{onePlan, imbalanceOf}
 use Rattle.year.specs.Plans.{isPlan, behind, rows, plansOf, countOfPlans}
+use Rattle.year.specs.declared.Term.{Term}
+use Rattle.year.specs.declared.Course.{Course}
 use Rattle.year.specs.declared.Year.{Year}
 use Rattle.year.specs.declared.Narrowing.the-variants.{Done, Unsound, Missing, Outside, Crossing}
 use Rattle.year.specs.declared.Measured.the-variants as measured
 
--- ---- years
+-- ---- years by their terms and courses
+
+abbrev padded : {A : Type 0} → ℕ → A → List A → List A
+padded n a l = take n (l ++ replicate n a)
+
+abbrev pub yearOf : List Term → List Course → Year
+yearOf ts cs = record { terms = length ts; courses = length cs; term = padded 16 zeroTerm ts; course = padded 64 zeroCourse cs }
+
+-- a term with the widest bounds but for its low credits and its low count
+abbrev pub atLeast : ℕ → ℕ → Term
+atLeast credits count = termOf credits 64000 count 64
 
 -- year E: credits 0-4 and 0-6, counts 0-3 each; courses of 4, 3 and 2 credits, each listing both terms
 abbrev pub yearE : Year
-yearE = record {
-  terms = 2;
-  courses = 3;
-  term = termOf 0 4 0 3 ∷ termOf 0 6 0 3 ∷ replicate 14 zeroTerm;
-  course = courseOf 4 3 ∷ courseOf 3 3 ∷ courseOf 2 3 ∷ replicate 61 zeroCourse;
-}
+yearE = yearOf (termOf 0 4 0 3 ∷ termOf 0 6 0 3 ∷ []) (courseOf 4 3 ∷ courseOf 3 3 ∷ courseOf 2 3 ∷ [])
 
 -- its course 0 in term 0 alone, and then all three placed: credits 4 and 5
 abbrev pub firstPlaced : Year
@@ -192,10 +199,41 @@ missing-first = refl
 
 -- ---- imbalance
 
--- credits 4 and 5
-pub imbalance-one : imbalanceOf settledE ≡ measured.Imbalance 1
-unfolding imbalanceOf isSound onePlan spreadOf largest smallest allPlaced isPlaced fixedCredits fixedCount sum all any
-imbalance-one = refl
+-- a year of terms with the widest bounds; term k has the k-th of some weights, as one course
+abbrev inTerms : ℕ → List ℕ → List Course
+inTerms k [] = []
+inTerms k (w ∷ ws) = courseOf w (2 ^ k) ∷ inTerms (suc k) ws
+
+abbrev pub loaded : List ℕ → Year
+loaded ws = yearOf (replicate (length ws) (atLeast 0 0)) (inTerms 0 ws)
+
+-- 64 courses of 1,000 credits in the last of 16 terms
+abbrev pub heaped : Year
+heaped = yearOf (replicate 16 (atLeast 0 0)) (replicate 64 (courseOf 1000 (2 ^ 15)))
+
+pub record Imbalances : Type 0 where
+  pub four-and-five : imbalanceOf (loaded (4 ∷ 5 ∷ [])) ≡ measured.Imbalance 1
+  pub three-and-six : imbalanceOf (loaded (3 ∷ 6 ∷ [])) ≡ measured.Imbalance 9
+  -- the same heaviest and lightest term, and the same credits in all; the second is ragged between
+  pub even-between : imbalanceOf (loaded (1 ∷ 5 ∷ 5 ∷ 9 ∷ [])) ≡ measured.Imbalance 128
+  pub ragged-between : imbalanceOf (loaded (1 ∷ 9 ∷ 1 ∷ 9 ∷ [])) ≡ measured.Imbalance 256
+  pub equal-loads : imbalanceOf (loaded (7 ∷ 7 ∷ 7 ∷ [])) ≡ measured.Imbalance 0
+  pub one-term : imbalanceOf (loaded (9 ∷ [])) ≡ measured.Imbalance 0
+  pub no-course : imbalanceOf (yearOf (atLeast 0 0 ∷ atLeast 0 0 ∷ []) []) ≡ measured.Imbalance 0
+  pub all-in-one : imbalanceOf heaped ≡ measured.Imbalance (15 * square 64000)
+
+pub imbalances : Imbalances
+unfolding imbalanceOf isSound onePlan allPlaced isPlaced fixedCredits fixedCount allCredits sum all any
+imbalances = record {
+  four-and-five = refl;
+  three-and-six = refl;
+  even-between = refl;
+  ragged-between = refl;
+  equal-loads = refl;
+  one-term = refl;
+  no-course = refl;
+  all-in-one = refl;
+}
 
 -- courses with several terms, and one placing that is no plan
 pub unsettled : imbalanceOf yearE ≡ measured.Unsettled

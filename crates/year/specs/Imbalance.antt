@@ -1,12 +1,13 @@
--- The imbalance of a settled year: credits of the heaviest term less those of the lightest.
-use Prim.Native.Nat.{ℕ, _-_}
+-- The imbalance of a settled year: the number of terms times the sum of squared term credits, less the square of all credits.
+use Prim.Native.Nat.{ℕ, _-_, _*_}
 use mathlib.Core.Bool.{Bool, _&&_}
 use lib.Dec.{leb}
 use Rattle.theory.specs.Choice.{choose}
 use Rattle.theory.specs.Tests.{all}
-use Rattle.theory.specs.Largest.{largest, smallest}
+use Rattle.theory.specs.Sum.{sum}
+use Rattle.theory.specs.Pairs.{square}
 use Rattle.year.specs.Year.{termAt}
-use Rattle.year.specs.Sums.{fixedCredits, fixedCount, allPlaced}
+use Rattle.year.specs.Sums.{fixedCredits, fixedCount, allCredits, allPlaced}
 use Rattle.year.specs.Sound.{isSound}
 use Rattle.year.specs.declared.Term.{Term}
 use Rattle.year.specs.declared.Year.{Year}
@@ -25,8 +26,9 @@ fitsAt y k = fits (termAt y k) (fixedCredits y k) (fixedCount y k)
 unfoldable pub onePlan : Year → Bool
 onePlan y = allPlaced y && all (y .terms) (fitsAt y)
 
-unfoldable pub spreadOf : Year → ℕ
-spreadOf y = largest (y .terms) (fixedCredits y) - smallest (y .terms) (fixedCredits y)
+-- the number, where term k has so many credits. Where these are all the credits there are, nothing is cut off below 0.
+abbrev pub imbalanceBy : Year → (ℕ → ℕ) → ℕ
+imbalanceBy y credits = y .terms * sum (y .terms) (λ k. square (credits k)) - square (allCredits y)
 
 unfoldable pub imbalanceOf : Year → Measured
-imbalanceOf y = choose (isSound y) (choose (onePlan y) (Imbalance (spreadOf y)) Unsettled) Unsound
+imbalanceOf y = choose (isSound y) (choose (onePlan y) (Imbalance (imbalanceBy y (fixedCredits y))) Unsettled) Unsound

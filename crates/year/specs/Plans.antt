@@ -1,5 +1,5 @@
--- What a placing and a plan are, and the plans of a small year by trying all placings.
-use Prim.Native.Nat.{ℕ, zero, suc, _≤_, _<_}
+-- What a placing and a plan are; the one placing where every course has one term; the plans of a small year by trying all placings.
+use Prim.Native.Nat.{ℕ, zero, suc, _^_, _≤_, _<_}
 use mathlib.Core.Bool.{Bool, true, _&&_}
 use mathlib.Core.List.{List, [], _∷_, _++_, map}
 use mathlib.Core.Path.{_≡_}
@@ -9,8 +9,9 @@ use Rattle.theory.specs.Sum.{pick, sum}
 use Rattle.theory.specs.Tests.{all}
 use Rattle.theory.specs.Tab.{tab}
 use Rattle.theory.specs.Order.{keep}
-use Rattle.year.specs.Year.{termAt, courseAt, weight, lists, lowCredits, highCredits, lowCount, highCount}
+use Rattle.year.specs.Year.{termAt, courseAt, weight, list, lists, isFixed, lowCredits, highCredits, lowCount, highCount}
 use Rattle.year.specs.Imbalance.{fits}
+use Rattle.year.specs.declared.Course.{Course}
 use Rattle.year.specs.declared.Year.{Year}
 
 -- a placing puts each course i of a year into the term p i
@@ -32,6 +33,19 @@ pub record Plan (y : Year) (p : Placing) : Type 0 where
   pub credits-high : (k : ℕ) → k < y .terms → creditsIn y p k ≤ highCredits y k
   pub count-low : (k : ℕ) → k < y .terms → lowCount y k ≤ countIn y p k
   pub count-high : (k : ℕ) → k < y .terms → countIn y p k ≤ highCount y k
+
+-- ---- the one placing
+
+-- each course of the year has one term, the one where p puts it
+abbrev pub PlacedBy : Year → Placing → Type 0
+PlacedBy y p = (i : ℕ) → i < y .courses → list y i ≡ 2 ^ p i
+
+-- the term of a course that has one
+unfoldable pub theTerm : Course → ℕ
+theTerm c = sum 16 (λ k. pick (isFixed c k) k)
+
+abbrev pub thePlacing : Year → Placing
+thePlacing y i = theTerm (courseAt y i)
 
 -- ---- the plans of a small year, counted
 

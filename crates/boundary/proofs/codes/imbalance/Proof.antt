@@ -2,6 +2,7 @@
 use mathlib.Core.Path.{sym, ap, _∙_}
 use Rattle.boundary.specs.Packed.{packed, measuredTold}
 use Rattle.boundary.proofs.SmallLaws.{imbalance-small}
+use native.Mathlib.Omega.{arith}
 use borrow.Author.Needs.{needs}
 use Rattle.boundary.proofs.codes.imbalance.Statement.{statement}
 use Rattle.boundary.proofs.codes.imbalance.Tie as tie
@@ -13,7 +14,7 @@ enum-known-m : tie.Need-enum-known-m
 enum-known-m c = search needs
 
 pack-requires : tie.Need-pack-requires
-pack-requires c κs = (search needs, imbalance-small _ _ (sym (c .before .before .before .imbalance .ensures) ∙ c .before .m .given .1))
+pack-requires c κs = (search needs, omega (arith, imbalance-small _ _ (sym (c .before .before .before .imbalance .ensures) ∙ c .before .m .given .1)))
 
 enum-told : tie.Need-enum-told
 enum-told c = search needs

@@ -1,14 +1,14 @@
--- The two refusals in their order; past them the year is sound, and the smallest of a row is at most its largest.
+-- The two refusals in their order; past them the year is sound, and every course has one term.
 use mathlib.Core.Bool.{true, _&&_}
 use mathlib.Core.Path.{_≡_, sym, ap₂, _∙_}
 use native.Mathlib.Omega.{arith}
 use borrow.Author.Needs.{needs}
 use borrow.Author.Tests.{not-true, not-false}
 use Rattle.year.specs.Sound.{Sound, isSound}
-use Rattle.year.specs.Sums.{fixedCredits}
-use Rattle.year.specs.Imbalance.{onePlan, spreadOf, imbalanceOf}
+use Rattle.year.specs.Sums.{allPlaced}
+use Rattle.year.specs.Imbalance.{onePlan, imbalanceOf}
 use Rattle.year.proofs.SoundLaws.{sound-of}
-use Rattle.theory.proofs.LargestLaws.{smallest-le-largest}
+use Rattle.theory.proofs.TestLaws.{and-true}
 use Rattle.totals.proofs.measure.imbalance.Statement.{statement}
 use Rattle.totals.proofs.measure.imbalance.Tie as tie
 
@@ -40,48 +40,29 @@ all-placed-requires c κs = sound (c .before)
 all-fit-requires : tie.Need-all-fit-requires
 all-fit-requires c κs = (sound (c .before .before), c .before .sums-of .ensures)
 
+-- past the second refusal every course has one term
+placed : (c : tie.Else2) → allPlaced (c .before .before .before .before .before .before .args .y) ≡ true
+placed c =
+    let a = c .before in
+    sym (a .before .all-placed .ensures) ∙ and-true (a .before .all-placed .result) (a .all-fit .result) (not-false _ (c .if2 .left)) .0
+
 returns-2 : tie.Need-returns-2
 unfolding imbalanceOf
 returns-2 c = simp (test (c .before .before .before .before), plan (c .before) ∙ not-true _ (c .if2 .taken))
 
-heaviest-requires : tie.Need-heaviest-requires
-heaviest-requires c κs = (sound (c .before .before .before .before), c .before .before .before .sums-of .ensures)
-
-lightest-requires : tie.Need-lightest-requires
-lightest-requires c κs = (sound (c .before .before .before .before .before), c .before .before .before .before .sums-of .ensures)
-
-sub-t9 : tie.Need-sub-t9
-sub-t9 c =
-    let y = c .before .before .before .before .before .before .before .before .before .before .args .y in
-    omega (arith, smallest-le-largest (y .terms) (fixedCredits y))
-
-cast-t10 : tie.Need-cast-t10
-cast-t10 c = search needs
+imbalance-by-requires : tie.Need-imbalance-by-requires
+imbalance-by-requires c κs = (
+  (sound (c .before .before .before .before), placed c),
+  c .before .before .before .sums-of .ensures,
+)
 
 returns-3 : tie.Need-returns-3
-unfolding imbalanceOf spreadOf
+unfolding imbalanceOf
 returns-3 c =
-    let l = c .before .before in
-    let e = l .before .before in
-    simp (
-      test (e .before .before .before .before),
-      plan (e .before) ∙ not-false _ (e .if2 .left),
-      l .before .heaviest .ensures,
-      l .lightest .ensures,
-    )
+    let e = c .before in
+    simp (test (e .before .before .before .before), plan (e .before) ∙ not-false _ (e .if2 .left), c .imbalance-by .ensures)
 
 pub imbalance-spec : {M : Type 1} → statement M
 imbalance-spec =
     tie.close
-    (tie.spec
-    is-sound-requires
-    returns
-    sums-of-requires
-    all-placed-requires
-    all-fit-requires
-    returns-2
-    heaviest-requires
-    lightest-requires
-    sub-t9
-    cast-t10
-    returns-3)
+    (tie.spec is-sound-requires returns sums-of-requires all-placed-requires all-fit-requires returns-2 imbalance-by-requires returns-3)

@@ -1,0 +1,44 @@
+-- The imbalance where the credits of the terms are all credits: nothing is cut off, what it is pair by pair, when it is 0, how large it is.
+use Prim.Native.Nat.{ℕ, _*_, _≤_, _<_}
+use mathlib.Core.Logic.{_↔_}
+use mathlib.Core.Path.{_≡_, sym, _∙_}
+use native.Mathlib.Nat.{mul-le-mul}
+use native.Mathlib.Omega.{arith}
+use Rattle.theory.specs.Sum.{sum}
+use Rattle.theory.specs.Pairs.{square, distance, overPairs}
+use Rattle.theory.proofs.SumLaws.{sum-le-mul}
+use Rattle.theory.proofs.PairLaws.{square-least, left-over, all-equal, left-most}
+use Rattle.year.specs.Imbalance.{imbalanceBy}
+use Rattle.year.specs.Sound.{Sound}
+use Rattle.year.specs.Sums.{fixedCredits, allCredits}
+use Rattle.year.specs.declared.Year.{Year}
+use Rattle.year.proofs.SumLaws.{all-credits-le, possible-le}
+
+module _ (y : Year) (credits : ℕ → ℕ) (total : sum (y .terms) credits ≡ allCredits y) where
+  pub imbalance-whole : square (allCredits y) ≤ y .terms * sum (y .terms) (λ k. square (credits k))
+  imbalance-whole = rw total at (square-least (y .terms) credits)
+
+  pub imbalance-pairs : imbalanceBy y credits ≡ overPairs (y .terms) (λ j k. square (distance (credits j) (credits k)))
+  imbalance-pairs = rw total at (left-over (y .terms) credits)
+
+  pub imbalance-zero : (imbalanceBy y credits ≡ 0) ↔ ((j k : ℕ) → j < y .terms → k < y .terms → credits j ≡ credits k)
+  imbalance-zero = let e = all-equal (y .terms) credits in (λ z. e .0 (sym imbalance-pairs ∙ z), λ h. imbalance-pairs ∙ e .1 h)
+
+  -- most where one of 16 terms has all of 64,000 credits
+  pub imbalance-most : Sound y → imbalanceBy y credits ≤ 15 * square 64000
+  imbalance-most s = rw total at (left-most (y .terms) credits 15 64000 (s .terms-most) (omega (arith, total, all-credits-le y s, s .courses-most)))
+
+-- ---- on the way to it
+
+module _ (y : Year) (s : Sound y) where
+  pub term-most : (k : ℕ) → fixedCredits y k ≤ 64000
+  term-most k = omega (arith, possible-le y k, all-credits-le y s, s .courses-most)
+
+  pub square-most : (k : ℕ) → square (fixedCredits y k) ≤ square 64000
+  square-most k = mul-le-mul (term-most k) (term-most k)
+
+  pub credits-to : (k : ℕ) → sum k (fixedCredits y) ≤ k * 64000
+  credits-to k = sum-le-mul k 64000 (fixedCredits y) (λ j l. term-most j)
+
+  pub squares-to : (k : ℕ) → sum k (λ j. square (fixedCredits y j)) ≤ k * square 64000
+  squares-to k = sum-le-mul k (square 64000) (λ j. square (fixedCredits y j)) (λ j l. square-most j)
