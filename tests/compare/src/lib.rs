@@ -13,7 +13,7 @@ impl Planner for Library {
     }
 
     fn read(&self, list: &[u8]) -> (u8, usize) {
-        number_and_value("read", packed::read(list), |number| matches!(number, 0..=7), |number| matches!(number, 2..=7))
+        number_and_place("read", packed::read(list), |number| matches!(number, 0..=7))
     }
 
     fn filter(&self, list: &[u8], out: &mut [u8]) -> Answer {
@@ -31,26 +31,31 @@ impl Planner for Library {
 
     fn narrow(&self, list: &[u8], kind: u32, a: u32, b: u32, out: &mut [u8]) -> (u8, usize) {
         let answer = packed::narrow(list, kind, a, b, out);
-        number_and_value("narrow", answer, |number| matches!(number, 0..=7 | 9..=12), |number| matches!(number, 2..=7))
+        number_and_place("narrow", answer, |number| matches!(number, 0..=7 | 9..=12))
     }
 
-    fn imbalance(&self, list: &[u8]) -> (u8, u32) {
+    fn imbalance(&self, list: &[u8]) -> (u8, u64) {
         let answer = packed::imbalance(list);
-        let (number, value) = number_and_value(
+        number_and_value(
             "imbalance",
             answer,
             |number| matches!(number, 0..=7 | 14),
             |number| matches!(number, 0 | 2..=7),
-        );
-        (number, value as u32)
+        )
     }
+}
+
+/// The number and the place of an answer whose only value is the place of a record that reading refused.
+fn number_and_place(call: &str, answer: u64, may_be: fn(u8) -> bool) -> (u8, usize) {
+    let (number, place) = number_and_value(call, answer, may_be, |number| matches!(number, 2..=7));
+    (number, place as usize)
 }
 
 /// The number and the value of an answer that has no detail. Only some numbers may be given, and only some of these
 /// with a value other than 0.
-fn number_and_value(call: &str, answer: u64, may_be: fn(u8) -> bool, may_have: fn(u8) -> bool) -> (u8, usize) {
+fn number_and_value(call: &str, answer: u64, may_be: fn(u8) -> bool, may_have: fn(u8) -> bool) -> (u8, u64) {
     let (number, value) = (packed::number(answer), packed::value(answer));
     let right = may_be(number) && packed::detail(answer) == 0 && (value == 0 || may_have(number));
     assert!(right, "{call} answers {answer:#x}");
-    (number, value as usize)
+    (number, value)
 }

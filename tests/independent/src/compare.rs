@@ -218,7 +218,7 @@ impl Both<'_> {
         self.same(list, "read", self.left.read(list), self.right.read(list))
     }
 
-    fn imbalance(&self, list: &[u8]) -> Checked<(u8, u32)> {
+    fn imbalance(&self, list: &[u8]) -> Checked<(u8, u64)> {
         self.same(list, "imbalance", self.left.imbalance(list), self.right.imbalance(list))
     }
 
@@ -286,7 +286,7 @@ impl Both<'_> {
         let (number, place) = self.read(list)?;
         if number != 0 {
             note(format!("read refused by {number}"));
-            self.check_refused(list, number, place, random)?;
+            self.check_refused(list, number, place, random, note)?;
             return Ok(Answer::Refused { number, place });
         }
         self.demand(place == 0, list, "a list that is read has place 0")?;
@@ -299,21 +299,9 @@ impl Both<'_> {
         self.check_filtered(list, answer, &filtered)?;
         self.short_buffers(list)?;
 
-        let (number, _) = self.imbalance(list)?;
-        note(format!("imbalance gives {number:02}"));
-        self.demand(matches!(number, 0 | 14), list, "imbalance of a list that is read")?;
-
         let year = self.year_of(list)?;
-        for _ in 0..4 {
-            let (kind, a, b) = some_narrowing(&year, random);
-            let (number, narrowed) = self.narrow(list, kind, a, b)?;
-            note(format!("narrowing gives {number:02}"));
-            self.demand(matches!(number, 0 | 10 | 11 | 12), list, "narrowing a list that is read")?;
-            if number == 0 {
-                let (number, _) = self.read(&narrowed)?;
-                self.demand(number == 0, list, "a narrowed year is not read")?;
-            }
-        }
+        self.check_imbalance(list, &year, answer, note)?;
+        self.check_narrowings(list, &year, random, note)?;
         if plans::placings(&year) <= MOST_PLACINGS {
             note("plans counted".to_string());
             self.check_plans(list, &year, answer, &filtered)?;
@@ -328,6 +316,53 @@ impl Both<'_> {
         self.demand(kind != Kind::Hidden || !no_plan, list, "no plan, but a plan was hidden")
     }
 
+    /// A settled year whose placing is a plan has an imbalance, the squared differences
+    /// of all pairs of terms, and filtering settles it; any other is refused by 14.
+    fn check_imbalance(
+        &self,
+        list: &[u8],
+        year: &Year,
+        answer: Answer,
+        note: &mut dyn FnMut(String),
+    ) -> Checked<()> {
+        let measured = self.imbalance(list)?;
+        note(format!("imbalance gives {:02}", measured.0));
+        let placing = plans::only_placing(year);
+        let (word, expected) = if !year.is_settled() {
+            ("refused: several terms", (14, 0))
+        } else if !plans::is_plan(year, &placing) {
+            ("refused: no plan", (14, 0))
+        } else {
+            let value = squared_differences(&plans::loads(year, &placing));
+            (size_of_imbalance(value), (0, value))
+        };
+        note(format!("imbalance {word}"));
+        self.same(list, "imbalance, and what the placing gives", measured, expected)?;
+        let settled = matches!(answer, Answer::Settled { .. });
+        self.demand(settled || measured.0 == 14, list, "an imbalance, but not settled")
+    }
+
+    /// Four narrowings; a year that is narrowed is read.
+    fn check_narrowings(
+        &self,
+        list: &[u8],
+        year: &Year,
+        random: &mut Random,
+        note: &mut dyn FnMut(String),
+    ) -> Checked<()> {
+        for _ in 0..4 {
+            let (kind, a, b) = some_narrowing(year, random);
+            let (number, narrowed) = self.narrow(list, kind, a, b)?;
+            note(format!("narrowing gives {number:02}"));
+            self.demand(matches!(number, 0 | 10 | 11 | 12), list, "narrowing a list that is read")?;
+            if number == 0 {
+                let (number, _) = self.read(&narrowed)?;
+                self.demand(number == 0, list, "a narrowed year is not read")?;
+            }
+        }
+        Ok(())
+    }
+
     /// A refused list: every call gives reading's number and leaves its buffer alone.
     fn check_refused(
         &self,
@@ -335,6 +370,7 @@ impl Both<'_> {
         number: u8,
         place: usize,
         random: &mut Random,
+        note: &mut dyn FnMut(String),
     ) -> Checked<()> {
         self.demand((1..=7).contains(&number), list, "reading refuses by 1 to 7")?;
         let (answer, _) = self.filter(list)?;
@@ -347,7 +383,8 @@ impl Both<'_> {
             self.demand(untouched(&out), list, "narrowing of a refused list touched bytes")?;
         }
         let imbalance = self.imbalance(list)?;
-        self.demand(imbalance == (number, place as u32), list, "imbalance of a refused list")
+        note(format!("imbalance gives {:02}", imbalance.0));
+        self.demand(imbalance == (number, place as u64), list, "imbalance of a refused list")
     }
 
     /// What holds of every answer: settled and open as said, at rest, and a settled
@@ -446,6 +483,28 @@ fn word(answer: Answer) -> String {
         Answer::Open { .. } => "OPEN".to_string(),
         Answer::NoPlan { rule, .. } => format!("NOPLAN {rule:02}"),
     }
+}
+
+/// The word for the counts of how large an imbalance is. From 2^32 it no longer fits
+/// 32 bits.
+fn size_of_imbalance(value: u64) -> &'static str {
+    match value {
+        0 => "0",
+        1..=999 => "1 to 999",
+        1_000..=0xFFFF_FFFF => "1,000 to below 2^32",
+        _ => "2^32 and more",
+    }
+}
+
+/// The squared differences of credits of all pairs of terms, each pair once.
+pub fn squared_differences(loads: &[i64]) -> u64 {
+    let mut sum = 0;
+    for (j, credits) in loads.iter().enumerate() {
+        for other in &loads[j + 1..] {
+            sum += credits.abs_diff(*other).pow(2);
+        }
+    }
+    sum
 }
 
 /// A narrowing's kind and numbers: mostly one that fits the year, at times one past

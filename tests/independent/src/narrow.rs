@@ -1,7 +1,8 @@
-//! The six narrowings and the imbalance (01, "Narrowings" and the last line of
-//! "One round"), with refusals 8, 10, 11, 12 and 14.
+//! The six narrowings (01, "Narrowings") and the imbalance (02, A1, which replaces
+//! the last line of 01's "One round"), with refusals 8, 10, 11, 12 and 14.
 
 use crate::plans;
+use crate::rules::all_credits;
 use crate::year::*;
 
 /// A narrowing. Course and term numbers and bounds are any integers from 0.
@@ -115,22 +116,28 @@ fn would_break(year: &Year, narrowing: Narrowing) -> bool {
     }
 }
 
-/// The number given back (0, 8 or 14) and the imbalance: credits of the heaviest
-/// term less those of the lightest. A refused imbalance has the value 0.
-pub fn imbalance(year: &Year) -> (u8, i64) {
+/// The number given back (0, 8 or 14) and the imbalance. A refused imbalance has
+/// the value 0.
+pub fn imbalance(year: &Year) -> (u8, u64) {
     if !year.is_sound() {
         return (8, 0);
     }
     if !year.is_settled() {
         return (14, 0);
     }
-    let placing: Vec<usize> =
-        year.courses.iter().map(|course| course.list.trailing_zeros() as usize).collect();
+    let placing = plans::only_placing(year);
     if !plans::is_plan(year, &placing) {
         return (14, 0);
     }
-    let loads = (0..year.terms.len()).map(|j| plans::credits(year, &placing, j));
-    let heaviest = loads.clone().max().expect("a year has a term");
-    let lightest = loads.min().expect("a year has a term");
-    (0, heaviest - lightest)
+    (0, measured(year, &placing))
+}
+
+/// Number of terms times the sum of squared term credits, less the square of all
+/// credits. It is at most 15 * 64,000 * 64,000, which 32 bits do not hold.
+fn measured(year: &Year, placing: &[usize]) -> u64 {
+    let number_of_terms = year.terms.len() as i64;
+    let term_credits = plans::loads(year, placing);
+    let sum_of_squares: i64 = term_credits.iter().map(|credits| credits * credits).sum();
+    let square_of_all = all_credits(year) * all_credits(year);
+    u64::try_from(number_of_terms * sum_of_squares - square_of_all).expect("never below 0")
 }

@@ -29,7 +29,7 @@ pub trait Planner {
 
     /// Reads and measures the imbalance of the year as it stands: the number (0 to
     /// 7, or 14) and the value, which is the place of reading's refusals and 0 with 14.
-    fn imbalance(&self, list: &[u8]) -> (u8, u32);
+    fn imbalance(&self, list: &[u8]) -> (u8, u64);
 
     /// The listing of a list, as text, to show with a mismatch.
     fn listing(&self, list: &[u8]) -> String {
@@ -88,13 +88,10 @@ impl Planner for Independent {
         (number, 0)
     }
 
-    fn imbalance(&self, list: &[u8]) -> (u8, u32) {
+    fn imbalance(&self, list: &[u8]) -> (u8, u64) {
         match records::read(list) {
-            Ok(year) => {
-                let (number, value) = imbalance(&year);
-                (number, value as u32)
-            }
-            Err(refusal) => (refusal.number, refusal.place as u32),
+            Ok(year) => imbalance(&year),
+            Err(refusal) => (refusal.number, refusal.place as u64),
         }
     }
 }

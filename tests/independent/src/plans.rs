@@ -12,6 +12,16 @@ pub fn count(placing: &[usize], j: usize) -> i64 {
     placing.iter().filter(|&&term| term == j).count() as i64
 }
 
+/// Credits that a placing puts in each term, by term.
+pub fn loads(year: &Year, placing: &[usize]) -> Vec<i64> {
+    (0..year.terms.len()).map(|j| credits(year, placing, j)).collect()
+}
+
+/// The one placing of a settled year.
+pub fn only_placing(year: &Year) -> Vec<usize> {
+    year.courses.iter().map(|course| course.list.trailing_zeros() as usize).collect()
+}
+
 /// A placing is a plan when each course stands in a term of its list and each
 /// term's credits and count are within its bounds.
 pub fn is_plan(year: &Year, placing: &[usize]) -> bool {

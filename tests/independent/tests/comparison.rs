@@ -105,7 +105,7 @@ impl Planner for Faulty {
         answer
     }
 
-    fn imbalance(&self, list: &[u8]) -> (u8, u32) {
+    fn imbalance(&self, list: &[u8]) -> (u8, u64) {
         match (self.fault, RIGHT.imbalance(list)) {
             (Fault::ValueWhenRefused, (14, _)) => (14, 1),
             (_, answer) => answer,
