@@ -20,12 +20,13 @@ const FIXED_SEEDS: [u64; 2] = [1, 2];
 /// ones, on which the independent program is slow.
 fn share(kind: Kind) -> u64 {
     match kind {
-        Kind::Small => 50,
+        Kind::Small => 46,
         Kind::Hidden => 6,
         Kind::Spoilt => 6,
         Kind::Edges => 3,
-        Kind::Damaged => 20,
-        Kind::Arbitrary => 15,
+        Kind::Damaged => 18,
+        Kind::Arbitrary => 13,
+        Kind::Placed => 8,
     }
 }
 

@@ -1,5 +1,6 @@
 //! Seeded makers of years and lists: small years dense in every rule, years with a
-//! hidden plan, the edges of every size, damaged lists and arbitrary bytes.
+//! hidden plan, the edges of every size, damaged lists, arbitrary bytes, and years
+//! whose courses are placed, to be measured.
 
 use crate::filter::{filter, Answer};
 use crate::records::{bytes, RECORD};
@@ -53,7 +54,8 @@ impl Random {
     }
 }
 
-/// The kinds of lists that a comparison runs.
+/// The kinds of lists that a comparison runs. A list is made from its kind's place
+/// here, so a new kind comes last.
 #[derive(Clone, Copy, Debug, PartialEq, Eq)]
 pub enum Kind {
     Small,
@@ -62,10 +64,18 @@ pub enum Kind {
     Edges,
     Damaged,
     Arbitrary,
+    Placed,
 }
 
-pub const KINDS: [Kind; 6] =
-    [Kind::Small, Kind::Hidden, Kind::Spoilt, Kind::Edges, Kind::Damaged, Kind::Arbitrary];
+pub const KINDS: [Kind; 7] = [
+    Kind::Small,
+    Kind::Hidden,
+    Kind::Spoilt,
+    Kind::Edges,
+    Kind::Damaged,
+    Kind::Arbitrary,
+    Kind::Placed,
+];
 
 /// A list of a kind.
 pub fn list(kind: Kind, random: &mut Random) -> Vec<u8> {
@@ -76,6 +86,7 @@ pub fn list(kind: Kind, random: &mut Random) -> Vec<u8> {
         Kind::Edges => bytes(&edge(random)),
         Kind::Damaged => damaged(random),
         Kind::Arbitrary => arbitrary(random),
+        Kind::Placed => placed_list(random),
     }
 }
 
@@ -573,6 +584,127 @@ fn near_valid(random: &mut Random) -> Vec<u8> {
     list
 }
 
+// ---- (f) Placed years, to be measured ----
+
+/// The list of a placed year; one in ten is damaged.
+fn placed_list(random: &mut Random) -> Vec<u8> {
+    let mut list = bytes(&placed(random));
+    if random.percent(10) {
+        damage(random, &mut list);
+    }
+    list
+}
+
+/// A year whose courses have one term each and whose placing is a plan. In one of
+/// five a bound is then too tight for it by 1, in one of ten a course has one term more.
+pub fn placed(random: &mut Random) -> Year {
+    let terms = random.from(1, 16) as usize;
+    let courses =
+        if random.percent(20) { equal_or_nearly(random, terms) } else { strewn(random, terms) };
+    let mut year = Year { terms: vec![Year::one_empty_term().terms[0]; terms], courses };
+    let slack = random.pick(&[0, 1, 5, MOST_CREDITS, MOST_CREDITS]);
+    bound_the_placing(random, &mut year, slack, slack.min(MOST_COUNT));
+    match random.below(10) {
+        0 | 1 => tighten_past_the_placing(random, &mut year),
+        2 => list_one_more(random, &mut year),
+        _ => {}
+    }
+    year
+}
+
+/// Courses, at times none, in all terms, in two, or all in one; light, heavy or mixed.
+fn strewn(random: &mut Random, terms: usize) -> Vec<Course> {
+    let number = random.pick(&[0, 1, 3, 10, 40, 63, 64]);
+    let (lightest, heaviest) = random.pick(&[(1, 3), (1, 1_000), (900, 1_000), (1_000, 1_000)]);
+    let order = shuffled(random, terms);
+    let used = random.pick(&[1, 2, terms, terms]).min(terms);
+    (0..number)
+        .map(|_| Course {
+            weight: random.from(lightest, heaviest),
+            list: 1 << order[random.below(used)],
+        })
+        .collect()
+}
+
+/// The same credits in every term, here by one course and there by two; in half of
+/// the years one course then weighs 1 more or less.
+fn equal_or_nearly(random: &mut Random, terms: usize) -> Vec<Course> {
+    let rows = random.from(1, (MOST_COURSES / (2 * terms)) as i64);
+    let heaviest = random.pick(&[3, 20, MOST_WEIGHT]);
+    let mut courses = vec![];
+    for _ in 0..rows {
+        let weight = random.from(2, heaviest);
+        for j in 0..terms {
+            let part = if random.percent(50) { random.from(1, weight - 1) } else { 0 };
+            courses.push(Course { weight: weight - part, list: 1 << j });
+            if part > 0 {
+                courses.push(Course { weight: part, list: 1 << j });
+            }
+        }
+    }
+    if random.percent(50) {
+        let course = random.below(courses.len());
+        let near = courses[course].weight + random.pick(&[-1, 1]);
+        courses[course].weight = near.clamp(LEAST_WEIGHT, MOST_WEIGHT);
+    }
+    courses
+}
+
+/// Bounds that the placing of a settled year meets, each with up to this much slack.
+fn bound_the_placing(random: &mut Random, year: &mut Year, credit_slack: i64, count_slack: i64) {
+    for j in 0..year.terms.len() {
+        let credits = crate::rules::small_p(year, j);
+        let count = crate::rules::number_fixed(year, j);
+        year.terms[j] = Term {
+            low_credits: (credits - random.from(0, credit_slack)).max(0),
+            high_credits: (credits + random.from(0, credit_slack)).min(MOST_CREDITS),
+            low_count: (count - random.from(0, count_slack)).max(0),
+            high_count: (count + random.from(0, count_slack)).min(MOST_COUNT),
+        };
+    }
+}
+
+/// One bound of one term, where the sizes let it, too tight for the placing by 1.
+fn tighten_past_the_placing(random: &mut Random, year: &mut Year) {
+    loop {
+        let j = random.below(year.terms.len());
+        let credits = crate::rules::small_p(year, j);
+        let count = crate::rules::number_fixed(year, j);
+        let term = &mut year.terms[j];
+        match random.below(4) {
+            0 if credits < MOST_CREDITS => {
+                term.low_credits = credits + 1;
+                term.high_credits = term.high_credits.max(credits + 1);
+            }
+            1 if credits > 0 => {
+                term.high_credits = credits - 1;
+                term.low_credits = term.low_credits.min(credits - 1);
+            }
+            2 if count < MOST_COUNT => {
+                term.low_count = count + 1;
+                term.high_count = term.high_count.max(count + 1);
+            }
+            3 if count > 0 => {
+                term.high_count = count - 1;
+                term.low_count = term.low_count.min(count - 1);
+            }
+            _ => continue,
+        }
+        return;
+    }
+}
+
+/// One course lists one term more, where there is a course and another term.
+fn list_one_more(random: &mut Random, year: &mut Year) {
+    let terms = year.terms.len();
+    if year.courses.is_empty() || terms == 1 {
+        return;
+    }
+    let course = random.below(year.courses.len());
+    let own = year.courses[course].list.trailing_zeros() as usize;
+    year.courses[course].list |= 1 << ((own + 1 + random.below(terms - 1)) % terms);
+}
+
 // ---- Lists for timing ----
 
 /// A list of a kind for timing: small, hidden, full, settled or noplan.
@@ -597,16 +729,7 @@ fn settled(random: &mut Random) -> Year {
     for course in &mut year.courses {
         course.list = 1 << random.below(terms);
     }
-    for j in 0..terms {
-        let credits = crate::rules::small_p(&year, j);
-        let count = crate::rules::number_fixed(&year, j);
-        year.terms[j] = Term {
-            low_credits: (credits - random.from(0, 5)).max(0),
-            high_credits: (credits + random.from(0, 5)).min(MOST_CREDITS),
-            low_count: (count - random.from(0, 2)).max(0),
-            high_count: (count + random.from(0, 2)).min(MOST_COUNT),
-        };
-    }
+    bound_the_placing(random, &mut year, 5, 2);
     year
 }
 

@@ -1,6 +1,8 @@
 //! The comparison itself: the right program matches itself, every trapped one and
 //! some that leave their buffers wrong are found, and every outcome is met.
 
+use std::collections::BTreeMap;
+
 use independent::compare;
 use independent::filter::Answer;
 use independent::planner::{Independent, Planner};
@@ -17,8 +19,7 @@ fn the_right_program_matches_itself_and_meets_every_outcome() {
     for rule in [1, 2, 4, 5, 6, 7, 8, 9, 10, 11] {
         assert!(counts.seen(&format!("NOPLAN {rule:02}")) > 0, "no plan by rule {rule}");
     }
-    for outcome in ["OPEN", "SETTLED", "imbalance gives 00", "imbalance gives 14", "plans counted"]
-    {
+    for outcome in ["OPEN", "SETTLED", "plans counted"] {
         assert!(counts.seen(outcome) > 0, "{outcome}");
     }
     for number in 1..=7 {
@@ -26,6 +27,22 @@ fn the_right_program_matches_itself_and_meets_every_outcome() {
     }
     for number in [0, 10, 11, 12] {
         assert!(counts.seen(&format!("narrowing gives {number:02}")) > 0, "narrowing {number}");
+    }
+    every_imbalance_is_met(&counts.by_kind["Placed"]);
+}
+
+/// The lists made to be measured meet each refusal and, some dozen times each, both
+/// causes of 14 and imbalances of every size.
+fn every_imbalance_is_met(placed: &BTreeMap<String, u64>) {
+    let seen = |outcome: &str| placed.get(outcome).copied().unwrap_or(0);
+    for number in [0, 1, 2, 3, 4, 5, 6, 7, 14] {
+        assert!(seen(&format!("imbalance gives {number:02}")) > 0, "imbalance gives {number}");
+    }
+    for cause in ["refused: several terms", "refused: no plan"] {
+        assert!(seen(&format!("imbalance {cause}")) >= 50, "imbalance {cause}");
+    }
+    for size in ["0", "1 to 999", "1,000 to below 2^32", "2^32 and more"] {
+        assert!(seen(&format!("imbalance {size}")) >= 50, "imbalance {size}");
     }
 }
 

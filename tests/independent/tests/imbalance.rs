@@ -1,10 +1,9 @@
 //! The imbalance of 02, A1: its examples, its edges, and what it means to an adviser.
 
 use independent::compare::squared_differences;
-use independent::generate::{corpus_list, Random};
+use independent::generate::{placed, Random};
 use independent::narrow::imbalance;
 use independent::plans::{loads, only_placing};
-use independent::records::read;
 use independent::year::*;
 
 const WIDEST: Term =
@@ -82,12 +81,19 @@ fn bounds_met_and_passed() {
 #[test]
 fn differences_of_all_pairs_of_terms() {
     let mut random = Random::new(1);
-    for _ in 0..300 {
-        let list = corpus_list("settled", &mut random).expect("a kind that there is");
-        let year = read(&list).expect("a list that is read");
-        let loads = loads(&year, &only_placing(&year));
+    let mut equal = 0;
+    let mut measured = 0;
+    while measured < 500 {
+        let year = placed(&mut random);
         let (number, value) = imbalance(&year);
-        assert_eq!((number, value), (0, squared_differences(&loads)), "{year:?}");
-        assert_eq!(value == 0, loads.iter().all(|&credits| credits == loads[0]), "{year:?}");
+        if number == 0 {
+            let loads = loads(&year, &only_placing(&year));
+            let all_equal = loads.iter().all(|&credits| credits == loads[0]);
+            assert_eq!(value, squared_differences(&loads), "{year:?}");
+            assert_eq!(value == 0, all_equal, "{year:?}");
+            measured += 1;
+            equal += all_equal as u32;
+        }
     }
+    assert!((100..400).contains(&equal), "{equal} of {measured} have equal terms");
 }
