@@ -1,6 +1,6 @@
 //! The comparison: runs many lists of every kind through two planners and checks
 //! that both answer alike, that lent buffers are left as they must be, and that
-//! what they answer is true of the plans of small years.
+//! what they answer is true of the plans of small years and the placings of settled ones.
 
 use std::collections::BTreeMap;
 use std::fmt;

@@ -1,12 +1,16 @@
 //! The comparison itself: the right program matches itself, every trapped one and
-//! some that leave their buffers wrong are found, and every outcome is met.
+//! some that leave their buffers or measure wrong are found, and every outcome is met.
 
 use std::collections::BTreeMap;
 
 use independent::compare;
 use independent::filter::Answer;
+use independent::generate::Kind;
 use independent::planner::{Independent, Planner};
+use independent::plans;
+use independent::records;
 use independent::traps::{Trap, TRAPS};
+use independent::year::*;
 
 const RIGHT: Independent = Independent { trap: Trap::None };
 
@@ -82,6 +86,21 @@ enum Fault {
     ValueWhenRefused,
     ShortBuffer,
     ShortBufferLast,
+    /// The heaviest term less the lightest, as before A1.
+    Spread,
+    /// The sum of squares is not taken times the number of terms.
+    TermsLeftOut,
+    /// The square of the heaviest term in place of the square of all credits.
+    SquareOfTheLargest,
+    CutTo32Bits,
+    /// A bound that the placing does not meet is overlooked, or all four are.
+    NoLowCredits,
+    NoHighCredits,
+    NoLowCount,
+    NoHighCount,
+    NoBounds,
+    /// A course with several terms is taken to be in its lowest.
+    LowestOfSeveralTerms,
 }
 
 impl Planner for Faulty {
@@ -125,8 +144,92 @@ impl Planner for Faulty {
     fn imbalance(&self, list: &[u8]) -> (u8, u64) {
         match (self.fault, RIGHT.imbalance(list)) {
             (Fault::ValueWhenRefused, (14, _)) => (14, 1),
+            (fault, (0, value)) => (0, wrong_value(fault, list, value)),
+            (fault, (14, _)) => RIGHT.imbalance(&overlooking(fault, list)),
             (_, answer) => answer,
         }
+    }
+}
+
+/// The imbalance of a year that has one, wrong where the fault is in the number.
+fn wrong_value(fault: Fault, list: &[u8], right: u64) -> u64 {
+    let year = records::read(list).expect("a list that is read");
+    let placed = plans::loads(&year, &plans::only_placing(&year));
+    let loads: Vec<u64> = placed.into_iter().map(|credits| credits as u64).collect();
+    let heaviest = *loads.iter().max().expect("a year has a term");
+    let lightest = *loads.iter().min().expect("a year has a term");
+    let all: u64 = loads.iter().sum();
+    let squares: u64 = loads.iter().map(|credits| credits * credits).sum();
+    match fault {
+        Fault::Spread => heaviest - lightest,
+        // Never above 0: the version nearest to the right one holds at 0.
+        Fault::TermsLeftOut => squares.saturating_sub(all * all),
+        Fault::SquareOfTheLargest => loads.len() as u64 * squares - heaviest * heaviest,
+        Fault::CutTo32Bits => right % (1 << 32),
+        _ => right,
+    }
+}
+
+/// A list that is refused by 14, without what the fault does not look at.
+fn overlooking(fault: Fault, list: &[u8]) -> Vec<u8> {
+    let mut year = records::read(list).expect("a list that is read");
+    for term in &mut year.terms {
+        if let Fault::NoLowCredits | Fault::NoBounds = fault {
+            term.low_credits = 0;
+        }
+        if let Fault::NoHighCredits | Fault::NoBounds = fault {
+            term.high_credits = MOST_CREDITS;
+        }
+        if let Fault::NoLowCount | Fault::NoBounds = fault {
+            term.low_count = 0;
+        }
+        if let Fault::NoHighCount | Fault::NoBounds = fault {
+            term.high_count = MOST_COUNT;
+        }
+    }
+    if let Fault::LowestOfSeveralTerms = fault {
+        for course in &mut year.courses {
+            course.list = 1 << course.list.trailing_zeros();
+        }
+    }
+    records::bytes(&year)
+}
+
+const WRONG_IMBALANCES: [Fault; 10] = [
+    Fault::Spread,
+    Fault::TermsLeftOut,
+    Fault::SquareOfTheLargest,
+    Fault::CutTo32Bits,
+    Fault::NoLowCredits,
+    Fault::NoHighCredits,
+    Fault::NoLowCount,
+    Fault::NoHighCount,
+    Fault::NoBounds,
+    Fault::LowestOfSeveralTerms,
+];
+
+/// The placed lists alone find each wrong imbalance, from every seed; so does the
+/// comparison of all kinds.
+#[test]
+fn wrong_imbalances_are_found() {
+    for fault in WRONG_IMBALANCES {
+        for seed in [1, 2, 3] {
+            let found = compare::run_kinds(&RIGHT, &Faulty { fault }, &[Kind::Placed], 300, seed);
+            let what = found.expect_err(&format!("{fault:?} with seed {seed}")).what;
+            assert!(what.starts_with("imbalance"), "{fault:?} with seed {seed}: {what}");
+        }
+        assert!(compare::run(&RIGHT, &Faulty { fault }, 300, 1).is_err(), "{fault:?}");
+    }
+}
+
+/// Two programs that measure wrong alike are found too, by what the placing gives.
+#[test]
+fn wrong_imbalances_are_found_without_a_right_program() {
+    for fault in WRONG_IMBALANCES {
+        let wrong = Faulty { fault };
+        let found = compare::run_kinds(&wrong, &wrong, &[Kind::Placed], 300, 1);
+        let what = found.expect_err(&format!("{fault:?}")).what;
+        assert!(what.starts_with("imbalance"), "{fault:?}: {what}");
     }
 }
 
