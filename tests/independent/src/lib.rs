@@ -1,5 +1,6 @@
-//! A second program for document 01, written from its text alone in the most
-//! literal form, so that a proved library can be compared with it.
+//! A second program for document 01 and request A1 of document 02, written from
+//! their text alone in the most literal form, so that a proved library can be
+//! compared with it.
 
 // `length % 16 == 0` is nearer to document 01's words, and older compilers know it.
 #![allow(clippy::manual_is_multiple_of)]

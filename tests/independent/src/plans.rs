@@ -1,4 +1,4 @@
-//! Plans by trying all placings of a small year.
+//! Plans by trying all placings of a small year, and the one placing of a settled year.
 
 use crate::year::Year;
 
