@@ -1,6 +1,7 @@
-//! Times filtering through the boundary. `bench lists DIR` writes the lists of every kind, `bench count FILE` says how
-//! many a file has, `bench once FILE` filters each once (for counting instructions), `bench tables DIR DOCS` times the library, the independent
-//! program and, where its peer stands in DIR, Gecode, prints the tables and draws the picture in DOCS.
+//! Times filtering and the imbalance through the boundary. `bench lists DIR` writes the lists of every kind, `bench count
+//! FILE` says how many a file has, `bench filter FILE` filters and `bench imbalance FILE` measures each once (for counting
+//! instructions), `bench tables DIR DOCS` times the library, the independent program and, where its peer stands in DIR,
+//! Gecode, prints the tables and draws the picture in DOCS.
 
 mod corpus;
 mod picture;
@@ -10,16 +11,19 @@ mod timing;
 use std::path::Path;
 use std::process::ExitCode;
 
+use timing::Call;
+
 fn main() -> ExitCode {
     let arguments: Vec<String> = std::env::args().skip(1).collect();
     let words: Vec<&str> = arguments.iter().map(|word| word.as_str()).collect();
     let done = match words[..] {
         ["lists", folder] => corpus::write_all(Path::new(folder)),
         ["count", file] => corpus::read(Path::new(file)).map(|lists| println!("{}", lists.len())),
-        ["once", file] => corpus::read(Path::new(file)).map(|lists| timing::once(&lists)),
+        ["filter", file] => corpus::read(Path::new(file)).map(|lists| timing::once(&lists, Call::Filter)),
+        ["imbalance", file] => corpus::read(Path::new(file)).map(|lists| timing::once(&lists, Call::Imbalance)),
         ["tables", folder, docs] => tables::make(Path::new(folder), Path::new(docs)),
         _ => {
-            eprintln!("usage: bench lists DIR | count FILE | once FILE | tables DIR DOCS");
+            eprintln!("usage: bench lists DIR | count FILE | filter FILE | imbalance FILE | tables DIR DOCS");
             return ExitCode::from(2);
         }
     };

@@ -6,7 +6,7 @@ use std::path::Path;
 
 use crate::corpus::{self, Kind};
 use crate::picture;
-use crate::timing;
+use crate::timing::{self, Call};
 
 /// The times of the lists of one file, in nanoseconds.
 pub struct Times {
@@ -26,6 +26,7 @@ pub fn make(folder: &Path, docs: &Path) -> io::Result<()> {
     println!("| years | library, µs | independent, µs | ratio (worst) | Gecode, µs | ratio (worst) | instructions |");
     println!("|---|---|---|---|---|---|---|");
     row(folder, &corpus::LARGE)?;
+    imbalances(folder)?;
 
     let courses = growth(folder, "courses", &corpus::COURSES, |n| corpus::sized(16, n))?;
     let terms = growth(folder, "terms", &corpus::TERMS, |n| corpus::sized(n, 64))?;
@@ -35,8 +36,8 @@ pub fn make(folder: &Path, docs: &Path) -> io::Result<()> {
 fn times(folder: &Path, file: &str) -> io::Result<Times> {
     let lists = corpus::read(&folder.join(file))?;
     Ok(Times {
-        library: timing::library(&lists),
-        independent: timing::independent(&lists),
+        library: timing::library(&lists, Call::Filter),
+        independent: timing::independent(&lists, Call::Filter),
         gecode: timing::gecode(&folder.join("gecode"), &folder.join(file))?,
     })
 }
@@ -56,6 +57,27 @@ fn row(folder: &Path, kind: &Kind) -> io::Result<()> {
         ratios(&times.library, &times.independent),
         instructions(folder, kind.name),
     );
+    Ok(())
+}
+
+/// The imbalance of settled years, which is given, and of full ones, where it is refused by 14: beside a filtering of the
+/// same list, and beside the independent program.
+fn imbalances(folder: &Path) -> io::Result<()> {
+    println!("\n| imbalance | library, µs | of a filtering (worst) | independent, µs | ratio (worst) | instructions |");
+    println!("|---|---|---|---|---|---|");
+    for (name, words) in [("settled", "settled years"), ("full", "refused by 14: 16 terms by 64 courses, some open")] {
+        let lists = corpus::read(&folder.join(name))?;
+        let library = timing::library(&lists, Call::Imbalance);
+        let independent = timing::independent(&lists, Call::Imbalance);
+        println!(
+            "| {words} | {} | {} | {} | {} | {} |",
+            microseconds(&library),
+            ratios(&library, &timing::library(&lists, Call::Filter)),
+            microseconds(&independent),
+            ratios(&library, &independent),
+            instructions(folder, &format!("{name}.imbalance")),
+        );
+    }
     Ok(())
 }
 
@@ -81,7 +103,7 @@ fn growth(folder: &Path, what: &str, sizes: &[usize], file: impl Fn(usize) -> St
     Ok(lines)
 }
 
-/// The instructions of a filtering, as counted before, on average over the kind.
+/// The instructions of a call, as counted before, on average over the kind.
 fn instructions(folder: &Path, name: &str) -> String {
     match fs::read_to_string(folder.join(format!("{name}.instructions"))) {
         Ok(text) => text.trim().to_string(),

@@ -1,5 +1,5 @@
-//! The time of one filtering of a list: of the library through its boundary, of the independent program, and of
-//! Gecode through its peer.
+//! The time of one call on a list: of the library through its boundary, of the independent program, and of Gecode
+//! through its peer.
 
 use std::io;
 use std::mem;
@@ -18,28 +18,46 @@ const BATCHES: usize = 9;
 /// A batch lasts about this long.
 const BATCH: Duration = Duration::from_micros(300);
 
-/// Filters each list once.
-pub fn once(lists: &[Vec<u8>]) {
-    let mut out = [0; turfsteeple::LONGEST];
-    for list in lists {
-        keep(packed::filter(list, &mut out));
+/// What is timed: a filtering, or the imbalance of the year as it stands.
+#[derive(Clone, Copy)]
+pub enum Call {
+    Filter,
+    Imbalance,
+}
+
+/// One call of the library through its boundary.
+fn of_library(call: Call, list: &[u8], out: &mut [u8]) -> u64 {
+    match call {
+        Call::Filter => packed::filter(list, out),
+        Call::Imbalance => packed::imbalance(list),
     }
 }
 
-/// Nanoseconds of one filtering through the boundary, for each list.
-pub fn library(lists: &[Vec<u8>]) -> Vec<f64> {
+/// Makes the call once on each list.
+pub fn once(lists: &[Vec<u8>], call: Call) {
     let mut out = [0; turfsteeple::LONGEST];
-    lists.iter().map(|list| quickest(|| packed::filter(list, &mut out))).collect()
+    for list in lists {
+        keep(of_library(call, list, &mut out));
+    }
+}
+
+/// Nanoseconds of one call through the boundary, for each list.
+pub fn library(lists: &[Vec<u8>], call: Call) -> Vec<f64> {
+    let mut out = [0; turfsteeple::LONGEST];
+    lists.iter().map(|list| quickest(|| of_library(call, list, &mut out))).collect()
 }
 
 /// The same of the independent program.
-pub fn independent(lists: &[Vec<u8>]) -> Vec<f64> {
+pub fn independent(lists: &[Vec<u8>], call: Call) -> Vec<f64> {
     let planner = Independent { trap: Trap::None };
     let mut out = [0; turfsteeple::LONGEST];
-    lists.iter().map(|list| quickest(|| planner.filter(list, &mut out))).collect()
+    match call {
+        Call::Filter => lists.iter().map(|list| quickest(|| planner.filter(list, &mut out))).collect(),
+        Call::Imbalance => lists.iter().map(|list| quickest(|| planner.imbalance(list))).collect(),
+    }
 }
 
-/// The same of Gecode's root propagation, if its peer stands there.
+/// A filtering by Gecode's root propagation, if its peer stands there.
 pub fn gecode(peer: &Path, file: &Path) -> io::Result<Option<Vec<f64>>> {
     if !peer.exists() {
         return Ok(None);

@@ -57,7 +57,9 @@ uint64_t turfsteeple_filter(const uint8_t *list, size_t list_length, uint8_t *ou
 uint64_t turfsteeple_narrow(const uint8_t *list, size_t list_length, uint32_t kind, uint32_t a, uint32_t b,
                             uint8_t *out, size_t out_length);
 
-/* The imbalance of the year as it stands, as the value: credits of the heaviest term less those of the lightest. */
+/* The imbalance of the year as it stands, as the value: the number of terms times the sum of squared term credits, less
+ * the square of all credits. That is the sum, over all pairs of terms, of the squared difference of their credits: 0
+ * exactly when all terms have equal credits, and at most 61,440,000,000, which 32 bits do not hold. */
 uint64_t turfsteeple_imbalance(const uint8_t *list, size_t list_length);
 
 /* The parts of an answer. */

@@ -5,14 +5,16 @@ use year::Sums;
 use year::Term;
 use year::Year;
 use year::sound;
-ghost use mathlib.Core.Bool.{true};
 ghost use mathlib.Core.Path.{_≡_};
+ghost use Prim.Native.Nat.{_*_, _-_, _≤_};
 ghost use Rattle.theory.specs.Tab.{tab};
 ghost use Rattle.theory.specs.Tests.{all};
+ghost use Rattle.theory.specs.Sum.{sum};
+ghost use Rattle.theory.specs.Pairs.{square};
 ghost use Rattle.year.specs.Sound.{Sound};
-ghost use Rattle.year.specs.Sums.{fixedCredits, allPlaced};
+ghost use Rattle.year.specs.Sums.{fixedCredits};
 ghost use Rattle.year.specs.SumsOf.{sumsAt};
-ghost use Rattle.year.specs.Imbalance.{fits, fitsAt, imbalanceBy, imbalanceOf};
+ghost use Rattle.year.specs.Imbalance.{fits, fitsAt, imbalanceOf};
 
 // The sums are within the term's bounds.
 fn fits(t: Term, s: Sums) -> bool
@@ -37,12 +39,17 @@ fn all_fit(y: Year, s: [Sums; Year::TERMS]) -> bool
     good
 }
 
-// Terms times the sum of squared term credits, less the square of all credits: those of the terms together, since every course
-// has one term.
-fn imbalance_by(y: Year, s: [Sums; Year::TERMS]) -> u64
-    requires { ⌜ Sound y × (allPlaced y ≡ true) ⌝ }
+// The credits of some terms: of all together, and the sum of their squares.
+struct Loads {
+    all: Credits,
+    squares: u64,
+}
+
+// What is fixed in the terms of a year.
+fn loads_of(y: Year, s: [Sums; Year::TERMS]) -> Loads
+    requires { ⌜ Sound y ⌝ }
     requires { ⌜ s ≡ tab 16 (sumsAt y) ⌝ }
-    ensures { λ r. ⌜ r ≡ imbalanceBy y (fixedCredits y) ⌝ }
+    ensures { λ r. ⌜ (r .all .0 ≡ sum (y .terms) (fixedCredits y)) × (r .squares ≡ sum (y .terms) (λ k. square (fixedCredits y k))) ⌝ }
 {
     let mut all = Credits(0);
     let mut squares: u64 = 0;
@@ -51,8 +58,19 @@ fn imbalance_by(y: Year, s: [Sums; Year::TERMS]) -> u64
         all.0 += x;
         squares += x as u64 * x as u64;
     }
-    let whole = all.0 as u64;
-    y.terms as u64 * squares - whole * whole
+    Loads {
+        all: all,
+        squares: squares,
+    }
+}
+
+// Terms times the sum of squared term credits, less the square of all credits.
+fn difference(terms: usize, l: Loads) -> u64
+    requires { ⌜ (terms ≤ 16) × (l .all .0 ≤ 64000) × (l .squares ≤ square (l .all .0)) × (square (l .all .0) ≤ terms * l .squares) ⌝ }
+    ensures { λ r. ⌜ r ≡ terms * l .squares - square (l .all .0) ⌝ }
+{
+    let all = l.all.0 as u64;
+    terms as u64 * l.squares - all * all
 }
 
 // The imbalance of the year as it stands.
@@ -66,6 +84,5 @@ pub fn imbalance(y: Year) -> Measured
     if !(crate::all_placed(y) & all_fit(y, s)) {
         return Measured::Unsettled;
     }
-    let v = imbalance_by(y, s);
-    Measured::Imbalance(v)
+    Measured::Imbalance(difference(y.terms, loads_of(y, s)))
 }

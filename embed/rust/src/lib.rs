@@ -97,9 +97,11 @@ pub fn narrow(list: &[u8], narrowing: Narrowing, out: &mut [u8]) -> Result<(), R
     accepted(packed::narrow(list, kind, a, b, out)).map(|_| ())
 }
 
-/// The imbalance of the year of a list as it stands: credits of the heaviest term less those of the lightest.
-pub fn imbalance(list: &[u8]) -> Result<u32, Refusal> {
-    accepted(packed::imbalance(list)).map(|value| value as u32)
+/// The imbalance of the year of a list as it stands: the number of terms times the sum of squared term credits, less the
+/// square of all credits. That is the sum, over all pairs of terms, of the squared difference of their credits: 0 exactly
+/// when all terms have equal credits, and at most 61,440,000,000.
+pub fn imbalance(list: &[u8]) -> Result<u64, Refusal> {
+    accepted(packed::imbalance(list))
 }
 
 /// The value of an answer, or its refusal.

@@ -55,6 +55,43 @@ fn refusals_leave_the_buffer() {
     assert_eq!(imbalance(&list), Err(Refusal::Unsettled));
 }
 
+/// A list of a course for each term, of the weights in order; the bounds are the widest.
+fn one_a_term(weights: &[u16]) -> Vec<u8> {
+    let mut list = Vec::new();
+    for number in 0..weights.len() {
+        list.extend(Term { low_credits: 0, high_credits: 64_000, low_count: 0, high_count: 64 }.record(number as u8));
+    }
+    for (number, &weight) in weights.iter().enumerate() {
+        list.extend(Course { weight, terms: 1 << number }.record(number as u8));
+    }
+    list
+}
+
+#[test]
+fn imbalances() {
+    assert_eq!(imbalance(&one_a_term(&[4, 5])), Ok(1));
+    assert_eq!(imbalance(&one_a_term(&[3, 6])), Ok(9));
+    assert_eq!(imbalance(&one_a_term(&[1, 5, 5, 9])), Ok(128));
+    assert_eq!(imbalance(&one_a_term(&[1, 9, 1, 9])), Ok(256));
+    assert_eq!(imbalance(&one_a_term(&[7, 7, 7])), Ok(0));
+    assert_eq!(imbalance(&one_a_term(&[9])), Ok(0));
+    // No course, and bounds that let the empty term be or not.
+    let mut empty = TERM.record(0).to_vec();
+    assert_eq!(imbalance(&empty), Ok(0));
+    empty[3] = 1;
+    assert_eq!(imbalance(&empty), Err(Refusal::Unsettled));
+}
+
+/// 64 courses of 1,000 credits in one of 16 terms: more than 32 bits hold.
+#[test]
+fn largest_imbalance() {
+    let mut list = one_a_term(&[1; 16])[..16 * RECORD].to_vec();
+    for number in 0..64 {
+        list.extend(Course { weight: 1_000, terms: 1 << 9 }.record(number));
+    }
+    assert_eq!(imbalance(&list), Ok(61_440_000_000));
+}
+
 #[test]
 fn narrowings_and_imbalance() {
     let list = year_e();

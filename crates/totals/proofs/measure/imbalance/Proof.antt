@@ -1,14 +1,19 @@
--- The two refusals in their order; past them the year is sound, and every course has one term.
+-- The two refusals in their order; past them the year is sound and every course has one term, so that the terms have all credits.
 use mathlib.Core.Bool.{true, _&&_}
 use mathlib.Core.Path.{_≡_, sym, ap₂, _∙_}
 use native.Mathlib.Omega.{arith}
 use borrow.Author.Needs.{needs}
 use borrow.Author.Tests.{not-true, not-false}
 use Rattle.year.specs.Sound.{Sound, isSound}
-use Rattle.year.specs.Sums.{allPlaced}
+use Rattle.year.specs.Sums.{fixedCredits, allCredits, allPlaced}
+use Rattle.year.specs.declared.Year.{Year}
 use Rattle.year.specs.Imbalance.{onePlan, imbalanceOf}
 use Rattle.year.proofs.SoundLaws.{sound-of}
+use Rattle.year.proofs.SumLaws.{all-credits-le}
+use Rattle.year.proofs.OnePlacing.{placed-total}
+use Rattle.theory.specs.Sum.{sum}
 use Rattle.theory.proofs.TestLaws.{and-true}
+use Rattle.theory.proofs.PairLaws.{squares-most, square-least}
 use Rattle.totals.proofs.measure.imbalance.Statement.{statement}
 use Rattle.totals.proofs.measure.imbalance.Tie as tie
 
@@ -41,7 +46,10 @@ all-fit-requires : tie.Need-all-fit-requires
 all-fit-requires c κs = (sound (c .before .before), c .before .sums-of .ensures)
 
 -- past the second refusal every course has one term
-placed : (c : tie.Else2) → allPlaced (c .before .before .before .before .before .before .args .y) ≡ true
+abbrev year : tie.Else2 → Year
+year c = c .before .before .before .before .before .before .args .y
+
+placed : (c : tie.Else2) → allPlaced (year c) ≡ true
 placed c =
     let a = c .before in
     sym (a .before .all-placed .ensures) ∙ and-true (a .before .all-placed .result) (a .all-fit .result) (not-false _ (c .if2 .left)) .0
@@ -50,19 +58,41 @@ returns-2 : tie.Need-returns-2
 unfolding imbalanceOf
 returns-2 c = simp (test (c .before .before .before .before), plan (c .before) ∙ not-true _ (c .if2 .taken))
 
-imbalance-by-requires : tie.Need-imbalance-by-requires
-imbalance-by-requires c κs = (
-  (sound (c .before .before .before .before), placed c),
-  c .before .before .before .sums-of .ensures,
-)
+loads-of-requires : tie.Need-loads-of-requires
+loads-of-requires c κs = (sound (c .before .before .before .before), c .before .before .before .sums-of .ensures)
+
+-- the terms together have all credits
+total : (c : tie.Else2) → sum (year c .terms) (fixedCredits (year c)) ≡ allCredits (year c)
+total c = placed-total (year c) (sound (c .before .before .before .before)) (placed c)
+
+difference-requires : tie.Need-difference-requires
+difference-requires c κs =
+    let y = year (c .before) in
+    let s = sound (c .before .before .before .before .before) in
+    let l = c .loads-of .ensures in (
+      s .terms-most,
+      omega (arith, l .0, total (c .before), all-credits-le y s, s .courses-most),
+      rw (l .0, l .1) (squares-most (y .terms) (fixedCredits y)),
+      rw (l .0, l .1) (square-least (y .terms) (fixedCredits y)),
+    )
 
 returns-3 : tie.Need-returns-3
 unfolding imbalanceOf
 returns-3 c =
-    let e = c .before in
-    simp (test (e .before .before .before .before), plan (e .before) ∙ not-false _ (e .if2 .left), c .imbalance-by .ensures)
+    let e = c .before .before in
+    let l = c .before .loads-of .ensures in
+    simp (test (e .before .before .before .before), plan (e .before) ∙ not-false _ (e .if2 .left), c .difference .ensures, l .0, l .1, total e)
 
 pub imbalance-spec : {M : Type 1} → statement M
 imbalance-spec =
     tie.close
-    (tie.spec is-sound-requires returns sums-of-requires all-placed-requires all-fit-requires returns-2 imbalance-by-requires returns-3)
+    (tie.spec
+    is-sound-requires
+    returns
+    sums-of-requires
+    all-placed-requires
+    all-fit-requires
+    returns-2
+    loads-of-requires
+    difference-requires
+    returns-3)
