@@ -7,7 +7,7 @@ use lib.ListN.{drop, replicate, set, take}
 use Rattle.year.specs.Year.{termOf, courseOf}
 use Rattle.year.specs.Narrow.{placeOf, barOf, raiseLowCreditsOf, lowerHighCreditsOf, raiseLowCountOf, lowerHighCountOf}
 use Rattle.year.specs.Imbalance.{onePlan, imbalanceOf}
-use Rattle.year.specs.Examples.{yearOf, settledE, crowdedE}
+use Rattle.year.specs.Examples.{yearOf, settledE, crowdedE, loaded, heaped}
 use Rattle.year.specs.declared.Term.{Term}
 use Rattle.year.specs.declared.Course.{Course}
 use Rattle.records.specs.Reading.{termRecord, courseRecord, recordAt, readTo, readList}
@@ -135,10 +135,13 @@ narrow-short = (refl, refl, refl, refl, refl, refl, refl)
 
 -- ---- imbalance
 
--- 1 of a settled year; 14 of a year with several terms for a course, and of one placing that is no plan; a refused list
+-- 1, 9, and the largest, which 32 bits do not hold; 14 of a year with several terms for a course, and of one placing that is no
+-- plan; a refused list
 imbalances : (imbalanceCode (recordsOf settledE) ≡ 1 * 65536)
+    × (imbalanceCode (recordsOf (loaded (3 ∷ 6 ∷ []))) ≡ 9 * 65536)
+    × (imbalanceCode (recordsOf heaped) ≡ 61440000000 * 65536)
     × (imbalanceCode bytesE ≡ 14)
     × (imbalanceCode (recordsOf crowdedE) ≡ 14)
     × (imbalanceCode refusedE ≡ 7 + 4 * 65536)
 unfolding computing
-imbalances = (refl, refl, refl, refl)
+imbalances = (refl, refl, refl, refl, refl, refl)

@@ -8,6 +8,7 @@ use year::Year;
 ghost use mathlib.Core.Path.{_≡_};
 ghost use Prim.Native.Nat.{_<_, _^_};
 ghost use Rattle.year.specs.Imbalance.{imbalanceOf};
+ghost use Rattle.year.specs.Sound.{Sound};
 ghost use Rattle.records.specs.Numbers.{readingPlace};
 ghost use Rattle.records.specs.declared.Reading.the-variants as reading;
 ghost use Rattle.boundary.specs.Packed.{told, packed, readingTold, narrowingTold, measuredTold, answerTold};
@@ -53,10 +54,12 @@ pub fn narrowing(a: Narrowing) -> u64
     }
 }
 
+// Of a sound year.
 pub fn imbalance(y: Year) -> u64
+    requires { ⌜ Sound y ⌝ }
     ensures { λ r. ⌜ r ≡ packed (measuredTold (imbalanceOf y)) ⌝ }
 {
-    let m = totals::measure::imbalance(y);
+    let m = totals::measure::imbalance_sound(y);
     match m {
         Measured::Imbalance(v) => pack(0, 0, v),
         Measured::Unsound => 8,

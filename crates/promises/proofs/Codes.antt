@@ -26,7 +26,8 @@ use Rattle.filter.specs.declared.Answer.the-variants.{Settled, Open, NoPlan, Un
 use Rattle.filter.proofs.RoundLaws.{rounds-few}
 use Rattle.boundary.specs.Packed.{Told, told, packed, apart, readingTold, shortTold, narrowingTold, measuredTold, answerDetail, answerTold}
 use Rattle.boundary.specs.Calls.{whenRead, whenRoom, readCode, imbalanceCode, filterCode, narrowOf, narrowCode}
-use Rattle.boundary.proofs.SmallLaws.{answer-small, imbalance-small}
+use Rattle.boundary.proofs.SmallLaws.{answer-small}
+use Rattle.year.proofs.ImbalanceLaws.{imbalance-small}
 use Rattle.promises.specs.Codes.{Tells, CodesDue}
 use Rattle.promises.proofs.Answers.{rule-bounded}
 

@@ -11,7 +11,7 @@ use Rattle.theory.specs.Tests.{all}
 use Rattle.theory.proofs.TestLaws.{all-of, and-true, and-of}
 use Rattle.year.specs.Year.{termAt, courseAt, lists}
 use Rattle.year.specs.Sums.{fixedCredits, fixedCount, allPlaced}
-use Rattle.year.specs.Imbalance.{fits, fitsAt, onePlan, imbalanceOf}
+use Rattle.year.specs.Imbalance.{fits, fitsAt, imbalanceOf}
 use Rattle.year.specs.Plans.{Placing, creditsIn, Plan, PlacedBy, thePlacing, stands, fitsIn, isPlan}
 use Rattle.year.specs.Sound.{Sound, isSound}
 use Rattle.year.specs.declared.Year.{Year}
@@ -20,8 +20,7 @@ use Rattle.year.specs.declared.Measured.{Measured}
 use Rattle.year.specs.declared.Measured.the-variants.{Imbalance, Unsound, Unsettled}
 use Rattle.year.proofs.SoundLaws.{sound-of, sound-to}
 use Rattle.year.proofs.OnePlacing.{credits-fixed, count-fixed, placed-listed, placed-within, placed-only, placed-by, all-placed, plan-total}
-use Rattle.year.proofs.ImbalanceLaws.{imbalance-whole, imbalance-pairs, imbalance-zero}
-use Rattle.boundary.proofs.SmallLaws.{imbalance-small}
+use Rattle.year.proofs.ImbalanceLaws.{imbalance-unsound, imbalance-open, imbalance-unfit, imbalance-given, imbalance-whole, imbalance-pairs, imbalance-zero, imbalance-small}
 use Rattle.year.specs.Examples.{imbalances}
 use Rattle.year.proofs.PlanCount.{plan-of-test, test-of-plan}
 use Rattle.promises.specs.ImbalancePlan.{imbalanceIn, ImbalanceDue, ImbalanceMeans}
@@ -31,42 +30,22 @@ module _ (y : Year) (p : Placing) (s : Sound y) (h : PlacedBy y p) where
   fits-same : fitsAt y ≡ fitsIn y p
   fits-same = fun-ext (λ k. ap (λ c. fits (termAt y k) c (fixedCount y k)) (credits-fixed y p h k) ∙ ap (fits (termAt y k) (creditsIn y p k)) (count-fixed y p h k))
 
-  one-plan : (onePlan y ≡ true) ↔ Plan y p
-  unfolding onePlan isPlan
+  one-plan : (all (y .terms) (fitsAt y) ≡ true) ↔ Plan y p
+  unfolding isPlan
   one-plan = (
     λ e.
         plan-of-test y p
         (and-of (all (y .courses) (stands y p)) (all (y .terms) (fitsIn y p))
         (all-of (y .courses) (stands y p)
         (λ i l. and-of (ltb (p i) (y .terms)) (lists (courseAt y i) (p i)) (lt-ltb _ _ (placed-within y p h s i l)) (placed-listed y p h i l)))
-        (rw fits-same at (and-true (allPlaced y) (all (y .terms) (fitsAt y)) e .1))),
-    λ q.
-        and-of (allPlaced y) (all (y .terms) (fitsAt y)) (all-placed y p s h)
-        (rw fits-same (and-true (all (y .courses) (stands y p)) (all (y .terms) (fitsIn y p)) (test-of-plan y p q) .1)),
+        (rw fits-same at e)),
+    λ q. rw fits-same (and-true (all (y .courses) (stands y p)) (all (y .terms) (fitsIn y p)) (test-of-plan y p q) .1),
   )
 
   imbalance-is : Plan y p → imbalanceOf y ≡ Imbalance (imbalanceIn y p)
-  unfolding imbalanceOf
   imbalance-is q =
       let e : fixedCredits y ≡ creditsIn y p = fun-ext (credits-fixed y p h) in
-      rw (sound-to y s, one-plan .1 q, e) refl
-
-  imbalance-refused : (Plan y p → ⊥) → imbalanceOf y ≡ Unsettled
-  unfolding imbalanceOf
-  imbalance-refused d = go (onePlan y) refl
-    where
-      go : (b : Bool) → onePlan y ≡ b → imbalanceOf y ≡ Unsettled
-      go true e = absurd (d (one-plan .0 e))
-      go false e = rw (sound-to y s, e) refl
-
--- a course has several terms
-imbalance-open : (y : Year) → Sound y → allPlaced y ≡ false → imbalanceOf y ≡ Unsettled
-unfolding imbalanceOf onePlan
-imbalance-open y s e = rw (sound-to y s, e) refl
-
-imbalance-unsound : (y : Year) → isSound y ≡ false → imbalanceOf y ≡ Unsound
-unfolding imbalanceOf
-imbalance-unsound y e = rw e refl
+      rw e at (imbalance-given y s (all-placed y p s h) (one-plan .1 q))
 
 -- ---- the three cases
 
@@ -76,9 +55,9 @@ data Case (y : Year) : Type 0 where
   settled : Sound y → allPlaced y ≡ true → Plan y (thePlacing y) → imbalanceOf y ≡ Imbalance (imbalanceIn y (thePlacing y)) → Case y
 
 case-of : (y : Year) → Case y
-case-of y = go (isSound y) refl (allPlaced y) refl (onePlan y) refl
+case-of y = go (isSound y) refl (allPlaced y) refl (all (y .terms) (fitsAt y)) refl
   where
-    go : (a : Bool) → isSound y ≡ a → (b : Bool) → allPlaced y ≡ b → (c : Bool) → onePlan y ≡ c → Case y
+    go : (a : Bool) → isSound y ≡ a → (b : Bool) → allPlaced y ≡ b → (c : Bool) → all (y .terms) (fitsAt y) ≡ c → Case y
     go false p b q c r = unsound (λ s. true≢false (sym (sound-to y s) ∙ p)) (imbalance-unsound y p)
     go true p false q c r = unsettled (sound-of y p) (inl q) (imbalance-open y (sound-of y p) q)
     go true p true q true r =
@@ -86,7 +65,7 @@ case-of y = go (isSound y) refl (allPlaced y) refl (onePlan y) refl
         settled (sound-of y p) q plan (imbalance-is y (thePlacing y) (sound-of y p) (placed-by y q) plan)
     go true p true q false r =
         let none : Plan y (thePlacing y) → ⊥ = λ z. true≢false (sym (one-plan y (thePlacing y) (sound-of y p) (placed-by y q) .1 z) ∙ r) in
-        unsettled (sound-of y p) (inr none) (imbalance-refused y (thePlacing y) (sound-of y p) (placed-by y q) none)
+        unsettled (sound-of y p) (inr none) (imbalance-unfit y (sound-of y p) q r)
 
 number-is : (y : Year) (m : Measured) → imbalanceOf y ≡ m → (n : ℕ) → imbalanceNumber (imbalanceOf y) ≡ n → imbalanceNumber m ≡ n
 number-is y m e n q = sym (ap imbalanceNumber e) ∙ q

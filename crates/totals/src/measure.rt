@@ -73,6 +73,21 @@ fn difference(terms: usize, l: Loads) -> u64
     terms as u64 * l.squares - all * all
 }
 
+// The imbalance of a sound year as it stands. A course with several terms ends it before anything is summed.
+pub fn imbalance_sound(y: Year) -> Measured
+    requires { ⌜ Sound y ⌝ }
+    ensures { λ r. ⌜ r ≡ imbalanceOf y ⌝ }
+{
+    if !crate::all_placed(y) {
+        return Measured::Unsettled;
+    }
+    let s = crate::sums_of(y);
+    if all_fit(y, s) {
+        return Measured::Imbalance(difference(y.terms, loads_of(y, s)));
+    }
+    Measured::Unsettled
+}
+
 // The imbalance of the year as it stands.
 pub fn imbalance(y: Year) -> Measured
     ensures { λ r. ⌜ r ≡ imbalanceOf y ⌝ }
@@ -80,9 +95,5 @@ pub fn imbalance(y: Year) -> Measured
     if !sound::is_sound(y) {
         return Measured::Unsound;
     }
-    let s = crate::sums_of(y);
-    if !(crate::all_placed(y) & all_fit(y, s)) {
-        return Measured::Unsettled;
-    }
-    Measured::Imbalance(difference(y.terms, loads_of(y, s)))
+    imbalance_sound(y)
 }

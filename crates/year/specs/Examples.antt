@@ -235,14 +235,14 @@ imbalances = record {
   all-in-one = refl;
 }
 
--- courses with several terms, and one placing that is no plan
+-- courses with several terms, and one placing that is no plan, of courses and of none
 pub unsettled : imbalanceOf yearE ≡ measured.Unsettled
 unfolding imbalanceOf isSound onePlan allPlaced isPlaced fixedCredits fixedCount sum all any
 unsettled = refl
 
-pub no-plan : imbalanceOf crowdedE ≡ measured.Unsettled
+pub no-plan : (imbalanceOf crowdedE ≡ measured.Unsettled) × (imbalanceOf (yearOf (atLeast 1 0 ∷ []) []) ≡ measured.Unsettled)
 unfolding imbalanceOf isSound onePlan allPlaced isPlaced fixedCredits fixedCount sum all any
-no-plan = refl
+no-plan = (refl, refl)
 
 pub imbalance-unsound : imbalanceOf foreignE ≡ measured.Unsound
 unfolding imbalanceOf isSound all

@@ -14,7 +14,7 @@ enum-told : tie.Need-enum-told
 enum-told c = search needs
 
 imbalance-requires : tie.Need-imbalance-requires
-imbalance-requires c κs = search needs
+imbalance-requires c κs = law.read-year _ _ (c .before .before .before .read .ensures) (c .before .enum-told .given .1) .0
 
 enum-known-a : tie.Need-enum-known-a
 enum-known-a c = search needs
