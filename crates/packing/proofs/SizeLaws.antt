@@ -17,7 +17,6 @@ use Rattle.theory.specs.Tests.{any}
 use Rattle.theory.proofs.TestLaws.{any-more}
 use Rattle.theory.specs.Packing.{share}
 use Rattle.theory.proofs.PackingLaws.{share-le, share-big, ceiling}
-use Rattle.theory.specs.Largest.{largest}
 use Rattle.packing.specs.Sizes.{shareAt, shareSum, capped, cappedAt, capSum, over}
 
 -- ---- the sums
@@ -77,13 +76,6 @@ pub none-over : (a b : List ℕ) (c limit : ℕ) → capSum a c + capSum b c ≤
 none-over a b c limit h =
     any-none (c / 2 + 1) (over a b c limit)
     (λ t l. le-ltb limit (shareSum a c t + shareSum b c t) (omega (arith, share-bound a c t (omega arith), share-bound b c t (omega arith))))
-
--- ---- the largest
-
-pub largest-most : (n m : ℕ) (f : ℕ → ℕ) → f 0 ≤ m → ((k : ℕ) → k < n → f k ≤ m) → largest n f ≤ m
-unfolding largest
-largest-most zero m f z h = z
-largest-most (suc n) m f z h = omega (arith, largest-most n m f z (λ k l. h k (omega arith)), h n (omega arith))
 
 -- ---- the loop over t
 

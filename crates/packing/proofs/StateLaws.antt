@@ -29,7 +29,8 @@ use Rattle.frame.proofs.StateLaws.{sums-held}
 use Rattle.rules.proofs.Narrows.{next-dead}
 use Rattle.packing.specs.Bins.{burstIn, roomIn}
 use Rattle.packing.specs.Sizes.{sizeIn, usedIn, shareSum, over, unpackable}
-use Rattle.packing.proofs.SizeLaws.{share-pick, share-tab, test-is, any-same, largest-most}
+use Rattle.theory.proofs.LargestLaws.{largest-most}
+use Rattle.packing.proofs.SizeLaws.{share-pick, share-tab, test-is, any-same}
 
 rule11-is : (y : Year) → rule11 y ≡ choose (unpackable y) (dead 11 y) (live y)
 unfolding rule11 unpackable

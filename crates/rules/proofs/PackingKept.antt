@@ -1,9 +1,8 @@
 -- Rule 11 keeps exactly the plans: it alters nothing, and a plan refutes each of its tests.
-use Prim.Native.Nat.{ℕ, zero, suc, _+_, _-_, _*_, _/_, _≤_, _<_}
+use Prim.Native.Nat.{ℕ, _+_, _-_, _*_, _/_, _≤_, _<_}
 use mathlib.Core.Bool.{Bool, true, false, not, true≢false}
-use mathlib.Core.Path.{_≡_, refl, sym, ap}
+use mathlib.Core.Path.{_≡_, refl, sym}
 use native.Mathlib.Omega.{arith}
-use native.Mathlib.Decide.{ℕ-discrete}
 use lib.Dec.{eqb}
 use borrow.Author.Tests.{eqb-false, eq-eqb, ltb-true}
 use Rattle.theory.specs.Choice.{choose}
@@ -16,7 +15,7 @@ use Rattle.theory.proofs.LoadLaws.{load}
 use Rattle.theory.proofs.PackingLaws.{rule-11, ceiling}
 use Rattle.year.specs.Year.{courseAt, weight, isFixed, highCredits}
 use Rattle.year.specs.Sums.{fixedWeight, fixedCredits, isPlaced, placedAt}
-use Rattle.theory.specs.Largest.{largest}
+use Rattle.theory.proofs.LargestLaws.{largest-above}
 use Rattle.year.specs.Plans.{Placing, creditsIn, Plan}
 use Rattle.year.specs.Sound.{Sound}
 use Rattle.year.specs.declared.Year.{Year}
@@ -26,15 +25,6 @@ use Rattle.rules.proofs.PlansKept.{PlansKept}
 use Rattle.rules.proofs.KeptOver.{kept-rest, kept-dead}
 use Rattle.rules.proofs.Reading.{fix}
 use Rattle.rules.proofs.PlanSums.{credits-floor}
-
-largest-above : (n : ℕ) (f : ℕ → ℕ) (k : ℕ) → k < n → f k ≤ largest n f
-unfolding largest
-largest-above zero f k l = absurd (omega arith)
-largest-above (suc n) f k l = go (ℕ-discrete k n) (λ h. largest-above n f k h)
-  where
-    go : Dec (k ≡ n) → (k < n → f k ≤ largest n f) → f k ≤ largest (suc n) f
-    go (yes e) ih = omega (arith, ap f e)
-    go (no d) ih = omega (arith, ih (omega arith))
 
 module _ (y : Year) (p : Placing) (plan : Plan y p) (s : Sound y) where
   -- the courses with several terms that p puts into k, beside what is fixed there

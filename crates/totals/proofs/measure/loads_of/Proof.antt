@@ -3,6 +3,7 @@
 use Prim.Native.Nat.{ℕ, _+_, _≤_, _<_, _-_}
 use mathlib.Core.List.{List}
 use mathlib.Core.Path.{_≡_, sym, ap, _∙_}
+use native.Mathlib.Nat.{mul-le-mul}
 use native.Mathlib.Omega.{arith}
 use borrow.Author.Needs.{needs}
 use Rattle.theory.specs.Sum.{sum}
@@ -15,7 +16,7 @@ use Rattle.year.specs.SumsOf.{sumsAt}
 use Rattle.year.specs.declared.Sums.{Sums}
 use Rattle.year.specs.declared.Year.{Year}
 use Rattle.year.proofs.SumLaws.{fixed-read}
-use Rattle.year.proofs.ImbalanceLaws.{term-most, square-most, credits-to, squares-to}
+use Rattle.year.proofs.ImbalanceLaws.{term-most, credits-to, squares-to}
 use Rattle.totals.specs.Parts.{fixedIn}
 use Rattle.totals.proofs.measure.loads_of.Statement.{statement}
 use Rattle.totals.proofs.measure.loads_of.Tie as tie
@@ -37,11 +38,8 @@ module _ (y : Year) (sound : Sound y) (s : List Sums) (e : s ≡ tab 16 (sumsAt 
   credits-small : sum k (fixedIn s) + fixedIn s k < 4294967296
   credits-small = omega (arith, credits-same y s e k (omega arith), credits-to y sound k, entry-small)
 
-  square-small : square (fixedIn s k) ≤ square 64000
-  square-small = rw (fixed-read y s e k h) (square-most y sound k)
-
   squares-small : sum k (λ j. square (fixedIn s j)) + square (fixedIn s k) < 18446744073709551616
-  squares-small = omega (arith, squares-same y s e k (omega arith), squares-to y sound k, square-small)
+  squares-small = omega (arith, squares-same y s e k (omega arith), squares-to y sound k, mul-le-mul entry-small entry-small)
 
 -- ---- the loop
 
@@ -66,6 +64,13 @@ element-copy-out-x c = search needs
 few : (c : tie.In-loop Inv-loop μ-loop) → c .before .loop .k < 16
 few c = omega (arith, c .loop-test .taken, c .before .before .pre .0)
 
+-- its entry of the array is within the sizes
+entry : (c : tie.After-struct-known Inv-loop μ-loop) → fixedIn (c .before .before .before .args .t2) (c .before .before .loop .k) ≤ 64000
+entry c =
+    let l = c .before .before in
+    let b = l .before in
+    entry-small (b .args .y) (b .pre .0) (b .args .t2) (b .pre .1) (l .loop .k) (few (c .before))
+
 add-all : tie.Need-add-all Inv-loop μ-loop
 add-all c =
     let l = c .before .before in
@@ -73,22 +78,13 @@ add-all c =
     omega (arith, l .loop .inv .1, credits-small (b .args .y) (b .pre .0) (b .args .t2) (b .pre .1) (l .loop .k) (few (c .before)))
 
 cast-squares : tie.Need-cast-squares Inv-loop μ-loop
-cast-squares c =
-    let l = c .before .before in
-    let b = l .before in
-    omega (arith, entry-small (b .args .y) (b .pre .0) (b .args .t2) (b .pre .1) (l .loop .k) (few (c .before)))
+cast-squares c = omega (arith, entry c)
 
 cast-squares-2 : tie.Need-cast-squares-2 Inv-loop μ-loop
-cast-squares-2 c =
-    let l = c .before .before in
-    let b = l .before in
-    omega (arith, entry-small (b .args .y) (b .pre .0) (b .args .t2) (b .pre .1) (l .loop .k) (few (c .before)))
+cast-squares-2 c = omega (arith, entry c)
 
 mul-squares : tie.Need-mul-squares Inv-loop μ-loop
-mul-squares c =
-    let l = c .before .before in
-    let b = l .before in
-    omega (arith, square-small (b .args .y) (b .pre .0) (b .args .t2) (b .pre .1) (l .loop .k) (few (c .before)))
+mul-squares c = omega (arith, mul-le-mul (entry c) (entry c))
 
 add-squares : tie.Need-add-squares Inv-loop μ-loop
 add-squares c =
