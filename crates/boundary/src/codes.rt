@@ -11,14 +11,14 @@ ghost use Rattle.year.specs.Imbalance.{imbalanceOf};
 ghost use Rattle.year.specs.Sound.{Sound};
 ghost use Rattle.records.specs.Numbers.{readingPlace};
 ghost use Rattle.records.specs.declared.Reading.the-variants as reading;
-ghost use Rattle.boundary.specs.Packed.{told, packed, readingTold, narrowingTold, measuredTold, answerTold};
+ghost use Rattle.boundary.specs.Packed.{told, packed, readingTold, narrowingTold, measuredTold, answerDetail, answerTold};
 
 // The answer to a buffer that is too short.
 pub const SHORT: u64 = 9;
 
-// Number, detail and value in one. The detail may pass its byte here, so the value keeps one of its 48 bits free.
+// Number, detail and value in one: a byte, a byte and 48 bits.
 fn pack(number: u64, detail: u32, value: u64) -> u64
-    requires { ⌜ (number < 256) × (value < 2 ^ 47) ⌝ }
+    requires { ⌜ (number < 256) × (detail < 256) × (value < 2 ^ 48) ⌝ }
     ensures { λ r. ⌜ r ≡ packed (told number detail value) ⌝ }
 {
     number + detail as u64 * 256 + value * 65536
@@ -68,6 +68,7 @@ pub fn imbalance(y: Year) -> u64
 }
 
 pub fn answer(a: Answer) -> u64
+    requires { ⌜ answerDetail a < 256 ⌝ }
     ensures { λ r. ⌜ r ≡ packed (answerTold a) ⌝ }
 {
     match a {

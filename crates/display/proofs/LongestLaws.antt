@@ -21,7 +21,7 @@ use Rattle.records.specs.Writing.{joined}
 use Rattle.records.specs.declared.Reading.{Reading}
 use Rattle.records.specs.declared.Reading.the-variants as reading
 use Rattle.filter.specs.Filter.{filterOf}
-use Rattle.filter.proofs.RoundLaws.{rounds-few}
+use Rattle.filter.proofs.RoundLaws.{answer-few}
 use Rattle.filter.specs.Numbers.{filterNumber, filterRounds}
 use Rattle.filter.specs.declared.Answer.{Answer}
 use Rattle.filter.specs.declared.Answer.the-variants.{Settled, Open, NoPlan, Unsound}
@@ -164,7 +164,7 @@ longest s = go (readList s .answer) refl
         let y = readList s .year in
         let sound = received-sound s (readList s) refl e in
         rw (received-by s (readList s) refl reading.Done e (filteredText (filterOf y)) refl)
-        (answer-length (filterOf y .answer) (filterOf y .year) (rounds-few y) (filtered-sound y (filterOf y) refl sound))
+        (answer-length (filterOf y .answer) (filterOf y .year) (answer-few y .1) (filtered-sound y (filterOf y) refl sound))
     go (reading.Refused f k) e =
         rw (received-by s (readList s) refl (reading.Refused f k) e (pairText refusedWord (faultNumber f) k) refl)
         (omega (arith, pair-length refusedWord (faultNumber f) k))

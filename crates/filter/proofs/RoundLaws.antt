@@ -15,9 +15,11 @@ use Rattle.rules.proofs.Leeway.{leeway}
 use Rattle.rules.specs.Narrower.{Narrower}
 use Rattle.rules.proofs.Narrows.{narrower-self, narrower-then}
 use Rattle.rules.proofs.Passes.{narrows-round}
+use Rattle.rules.proofs.Named.{round-named}
 use Rattle.filter.specs.Halves.{firstHalf, secondHalf}
 use Rattle.filter.specs.Filter.{filtered, atRest, roundsFrom, filterOf}
-use Rattle.filter.specs.Numbers.{filterRounds}
+use Rattle.filter.specs.Numbers.{filterRule, filterRounds}
+use Rattle.filter.specs.declared.Answer.{Answer}
 use Rattle.filter.specs.declared.Answer.the-variants.{Settled, Open, NoPlan, Unsound}
 use Rattle.filter.specs.declared.Filtered.{Filtered}
 
@@ -91,17 +93,20 @@ filter-narrower y s =
     after : (z : Year) → Narrower y z → Narrower y (round z .year)
     after z a = narrower-then y z (round z .year) a (narrows-round z (a .sound) .year)
 
--- its rounds are no more than it may run
-pub rounds-few : (y : Year) → filterRounds (filterOf y .answer) ≤ 1025985
-unfolding filterOf
-rounds-few y = go (isSound y)
-  where
-    rest : (k : ℕ) (z : Year) (n : ℕ) → n + suc k ≤ 1025985 → filterRounds (atRest (round z .year) (n + 1)) ≤ 1025985
-    rest k z n q =
-        choose-case (λ a. filterRounds a ≤ 1025985) (allPlaced (round z .year)) (Settled (n + 1)) (Open (n + 1)) (λ e. omega arith) (λ e. omega arith)
+-- the rule that its answer names is one of the eleven, or none; its rounds are no more than it may run
+abbrev Few : Answer → Type 0
+Few a = (filterRule a ≤ 11) × (filterRounds a ≤ 1025985)
 
-    go : (b : Bool) → filterRounds (choose b (roundsFrom 1025985 y y 0) (filtered Unsound y) .answer) ≤ 1025985
+pub answer-few : (y : Year) → (filterRule (filterOf y .answer) ≤ 11) × (filterRounds (filterOf y .answer) ≤ 1025985)
+unfolding filterOf
+answer-few y = go (isSound y)
+  where
+    rest : (k : ℕ) (z : Year) (n : ℕ) → n + suc k ≤ 1025985 → Few (atRest (round z .year) (n + 1))
+    rest k z n q =
+        choose-case Few (allPlaced (round z .year)) (Settled (n + 1)) (Open (n + 1)) (λ e. omega arith) (λ e. omega arith)
+
+    go : (b : Bool) → Few (choose b (roundsFrom 1025985 y y 0) (filtered Unsound y) .answer)
     go true =
-        rounds-by (λ f. filterRounds (f .answer) ≤ 1025985) (λ k z n. n + k ≤ 1025985) y (λ z n q. omega arith) (λ k z n q. omega arith) rest
+        rounds-by (λ f. Few (f .answer)) (λ k z n. n + k ≤ 1025985) y (λ z n q. omega arith) (λ k z n q. omega (arith, round-named z)) rest
         (λ k z n q. omega arith) 1025985 y 0 (omega arith)
     go false = omega arith

@@ -16,12 +16,12 @@ use Rattle.records.specs.Numbers.{writingNumber}
 use Rattle.records.specs.Writing.{recordsOf, writeAnswer}
 use Rattle.records.specs.declared.Writing.{Writing}
 use Rattle.records.specs.declared.Writing.the-variants as writing
-use Rattle.rules.proofs.Named.{round-named}
 use Rattle.filter.specs.Filter.{filterOf}
 use Rattle.filter.specs.Numbers.{filterNumber, filterRule, filterRounds}
 use Rattle.filter.specs.declared.Answer.{Answer}
 use Rattle.filter.specs.declared.Answer.the-variants.{Settled, Open}
 use Rattle.filter.specs.declared.Filtered.{Filtered}
+use Rattle.filter.proofs.RoundLaws.{answer-few}
 use Rattle.promises.specs.Rounds.{Ends, finds-no-plan, comes-to-rest}
 use Rattle.promises.specs.Answers.{SoundTold, WritingDue, FilteringDue}
 use Rattle.promises.proofs.Rounds.{filter-runs}
@@ -78,34 +78,23 @@ writing-due = record {
 -- what an answer to a sound year says: rounds, rule, number
 record Said (a : Answer) : Type 0 where
   some-round : 1 ≤ filterRounds a
-  few-rules : filterRule a ≤ 11
   named : filterNumber a ≡ 13 → 1 ≤ filterRule a
   not-unsound : filterNumber a ≡ 8 → ⊥
 
 rest-said : (b : Bool) (n : ℕ) → Said (choose b (Settled (suc n)) (Open (suc n)))
-rest-said true n = record { some-round = omega arith; few-rules = omega arith; named = λ q. absurd (omega arith); not-unsound = λ q. omega arith }
-rest-said false n = record { some-round = omega arith; few-rules = omega arith; named = λ q. absurd (omega arith); not-unsound = λ q. omega arith }
+rest-said true n = record { some-round = omega arith; named = λ q. absurd (omega arith); not-unsound = λ q. omega arith }
+rest-said false n = record { some-round = omega arith; named = λ q. absurd (omega arith); not-unsound = λ q. omega arith }
 
 end-said : (y z : Year) (n : ℕ) (r : Filtered) → Ends y n z r → Said (r .answer)
-end-said y z n r (finds-no-plan e) = record { some-round = omega arith; few-rules = round-named z; named = λ q. omega (arith, e); not-unsound = λ q. omega arith }
+end-said y z n r (finds-no-plan e) = record { some-round = omega arith; named = λ q. omega (arith, e); not-unsound = λ q. omega arith }
 end-said y z n r (comes-to-rest e g) = rest-said (allPlaced z) n
 
 sound-said : (y : Year) → Sound y → Said (filterOf y .answer)
 sound-said y s = let f = filter-runs y s in end-said y (f .reached) (f .rounds-before-last) (filterOf y) (f .ends)
 
 -- of a year that is not sound
-unsound-rule : (y : Year) → isSound y ≡ false → filterRule (filterOf y .answer) ≡ 0
-unsound-rule y e = ap (λ r. filterRule (r .answer)) (filter-unsound y e)
-
 unsound-number : (y : Year) → isSound y ≡ false → filterNumber (filterOf y .answer) ≡ 8
 unsound-number y e = ap (λ r. filterNumber (r .answer)) (filter-unsound y e)
-
-pub rule-bounded : (y : Year) → filterRule (filterOf y .answer) ≤ 11
-rule-bounded y = go (isSound y) refl
-  where
-    go : (b : Bool) → isSound y ≡ b → filterRule (filterOf y .answer) ≤ 11
-    go true e = sound-said y (sound-of y e) .few-rules
-    go false e = omega (arith, unsound-rule y e)
 
 pub filtering-due : FilteringDue
 filtering-due = record { unsound = λ y. eight y (isSound y) refl; named = λ y. thirteen y (isSound y) refl }
@@ -118,5 +107,5 @@ filtering-due = record { unsound = λ y. eight y (isSound y) refl; named = λ y.
         → (1 ≤ filterRule (filterOf y .answer)) × (filterRule (filterOf y .answer) ≤ 11) × (1 ≤ filterRounds (filterOf y .answer))
     thirteen y true e q =
         let t = sound-said y (sound-of y e) in
-        (t .named q, t .few-rules, t .some-round)
+        (t .named q, answer-few y .0, t .some-round)
     thirteen y false e q = absurd (omega (arith, unsound-number y e, q))

@@ -1,5 +1,5 @@
 -- Codes taken apart: the three parts of every answer fit their places.
-use Prim.Native.Nat.{ℕ, _+_, _*_, _/_, _%_, _≤_, _<_}
+use Prim.Native.Nat.{ℕ, _+_, _*_, _/_, _%_, _<_}
 use mathlib.Core.List.{List}
 use mathlib.Core.Path.{_≡_, refl, ap, _∙_}
 use native.Mathlib.Omega.{arith}
@@ -20,16 +20,15 @@ use Rattle.records.specs.declared.Fault.the-variants as fault
 use Rattle.records.specs.declared.Reading.{Reading}
 use Rattle.records.specs.declared.Reading.the-variants as reading
 use Rattle.filter.specs.Filter.{filterOf}
-use Rattle.filter.specs.Numbers.{filterNumber, filterRule}
+use Rattle.filter.specs.Numbers.{filterNumber}
 use Rattle.filter.specs.declared.Answer.{Answer}
 use Rattle.filter.specs.declared.Answer.the-variants.{Settled, Open, NoPlan, Unsound}
-use Rattle.filter.proofs.RoundLaws.{rounds-few}
-use Rattle.boundary.specs.Packed.{Told, told, packed, apart, readingTold, shortTold, narrowingTold, measuredTold, answerDetail, answerTold}
+use Rattle.filter.proofs.RoundLaws.{answer-few}
+use Rattle.boundary.specs.Packed.{Told, told, packed, apart, readingTold, shortTold, narrowingTold, measuredTold, answerTold}
 use Rattle.boundary.specs.Calls.{whenRead, whenRoom, readCode, imbalanceCode, filterCode, narrowOf, narrowCode}
-use Rattle.boundary.proofs.SmallLaws.{answer-small}
+use Rattle.boundary.proofs.SmallLaws.{answer-small, detail-small}
 use Rattle.year.proofs.ImbalanceLaws.{imbalance-small}
 use Rattle.promises.specs.Codes.{Tells, CodesDue}
-use Rattle.promises.proofs.Answers.{rule-bounded}
 
 -- ---- what fits is undone
 
@@ -94,8 +93,8 @@ measured-fits y = record { number-fits = few (imbalanceOf y); detail-fits = omeg
 answer-fits : (y : Year) → Fits (answerTold (filterOf y .answer))
 answer-fits y = record {
   number-fits = few (filterOf y .answer);
-  detail-fits = omega (arith, detail (filterOf y .answer), rule-bounded y);
-  value-fits = omega (arith, rounds-few y);
+  detail-fits = detail-small y;
+  value-fits = omega (arith, answer-few y .1);
 }
   where
     few : (a : Answer) → filterNumber a < 256
@@ -103,12 +102,6 @@ answer-fits y = record {
     few (Open n) = omega arith
     few (NoPlan r n) = omega arith
     few Unsound = omega arith
-
-    detail : (a : Answer) → answerDetail a ≤ filterRule a + 2
-    detail (Settled n) = omega arith
-    detail (Open n) = omega arith
-    detail (NoPlan r n) = omega arith
-    detail Unsound = omega arith
 
 room-fits : (room n : ℕ) (own : Told) → Fits own → Fits (whenRoom room n own)
 room-fits room n own f =

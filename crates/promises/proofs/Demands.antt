@@ -5,7 +5,7 @@ use Rattle.records.proofs.ListLaws.{read-sound}
 use Rattle.records.proofs.WriteLaws.{records-length, records-most}
 use Rattle.records.proofs.ReadWrite.{read-write}
 use Rattle.records.proofs.WriteRead.{write-read}
-use Rattle.filter.proofs.RoundLaws.{rounds-few}
+use Rattle.filter.proofs.RoundLaws.{answer-few}
 use Rattle.promises.specs.Rounds.{Filtering}
 use Rattle.promises.specs.Demands.{Demand1, Demand2, Demand3}
 use Rattle.promises.proofs.Rounds.{filter-runs, no-other, marks-tell, filter-rested}
@@ -25,7 +25,7 @@ use Rattle.promises.proofs.Sequence.{sequence-narrower, sequence-plans,
 
 pub demand-1 : Demand1
 demand-1 = record {
-  bounded-rounds = rounds-few;
+  bounded-rounds = λ y. answer-few y .1;
   sound-told = sound-told;
   reading-due = reading-due;
   writing-due = writing-due;

@@ -1,4 +1,4 @@
--- `codes::answer`: each arm packs what its case holds.
+-- `codes::answer`: each arm packs what its case holds; that the rule of a no plan fits a byte is asked.
 use mathlib.Core.Path.{sym, ap, _∙_}
 use Rattle.boundary.specs.Packed.{packed, answerTold}
 use borrow.Author.Needs.{needs}
@@ -30,7 +30,9 @@ cast-pack-3 : tie.Need-cast-pack-3
 cast-pack-3 c = search needs
 
 pack-requires-3 : tie.Need-pack-requires-3
-pack-requires-3 c κs = search needs
+pack-requires-3 c κs =
+    let rule = rw (c .before .a3 .given .1) at (c .before .before .before .pre) in
+    (search needs, rule, search needs)
 
 enum-told : tie.Need-enum-told
 enum-told c = search needs

@@ -14,7 +14,7 @@ enum-known-m : tie.Need-enum-known-m
 enum-known-m c = search needs
 
 pack-requires : tie.Need-pack-requires
-pack-requires c κs = (search needs, omega (arith, imbalance-small _ _ (sym (c .before .before .before .imbalance-sound .ensures) ∙ c .before .m .given .1)))
+pack-requires c κs = (search needs, search needs, omega (arith, imbalance-small _ _ (sym (c .before .before .before .imbalance-sound .ensures) ∙ c .before .m .given .1)))
 
 enum-told : tie.Need-enum-told
 enum-told c = search needs

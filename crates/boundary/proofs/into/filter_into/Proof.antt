@@ -1,8 +1,11 @@
 -- `into::filter_into`: settled and open are written, the other two leave the buffer.
-use Prim.Native.Nat.{_+_, _*_, _≤_}
-use mathlib.Core.Path.{refl}
+use Prim.Native.Nat.{_+_, _*_, _≤_, _<_}
+use mathlib.Core.Path.{refl, sym, subst}
 use lib.ListN.{length}
 use Rattle.year.specs.Sound.{Sound}
+use Rattle.filter.specs.declared.Filtered.{Filtered}
+use Rattle.boundary.specs.Packed.{answerDetail}
+use Rattle.boundary.proofs.SmallLaws.{detail-small}
 use Rattle.boundary.proofs.IntoLaws.{filter-ends, filtered-fits}
 use borrow.Author.Needs.{needs}
 use Rattle.boundary.proofs.into.filter_into.Statement.{statement}
@@ -18,7 +21,7 @@ filter-sound-requires : tie.Need-filter-sound-requires
 filter-sound-requires c κs = search needs
 
 answer-requires : tie.Need-answer-requires
-answer-requires c κs = search needs
+answer-requires c κs = subst (λ (f : Filtered). answerDetail (f .answer) < 256) (sym (c .before .filter-sound .ensures)) (detail-small (c .before .before .before .args .y))
 
 enum-told : tie.Need-enum-told
 enum-told c = search needs
