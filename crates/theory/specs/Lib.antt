@@ -1,4 +1,4 @@
--- To be believed: the words that the rules' definitions are written in. What is proved of them is in proofs/.
+-- To be believed: the words that the rules and the imbalance are written in. What is proved of them is in proofs/.
 pub mod Choice
 pub mod Sum
 pub mod Others
