@@ -68,7 +68,8 @@ fn second_half(s: State, weight: &[u32], o: Orders) -> State
 {
     let r9 = walks::rules_6_to_9(s, weight, o);
     let r10 = lists::rule_10(r9, weight);
-    packing::rule_11(r10, weight)
+    let rising = o.up;
+    packing::rule_11(r10, weight, &rising)
 }
 
 // The orders of the first n courses, computed in the first round and kept from then on. A year that the first half of

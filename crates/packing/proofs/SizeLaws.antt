@@ -1,4 +1,4 @@
--- Sums over arrays of sizes; the test without a division; the bound for all t.
+-- Sums over arrays of sizes; the bound for all t.
 use Prim.Native.Nat.{ℕ, zero, suc, _+_, _-_, _*_, _/_, _≤_, _<_}
 use mathlib.Core.Bool.{Bool, true, false, _||_}
 use mathlib.Core.List.{List}
@@ -14,9 +14,9 @@ use Rattle.theory.proofs.SumLaws.{sum-cong, sum-mono}
 use Rattle.theory.specs.Tab.{tab}
 use Rattle.theory.proofs.TabLaws.{length-tab, getD-tab}
 use Rattle.theory.specs.Tests.{any}
-use Rattle.theory.proofs.TestLaws.{any-more}
+use Rattle.theory.proofs.TestLaws.{any-more, any-none}
 use Rattle.theory.specs.Packing.{share}
-use Rattle.theory.proofs.PackingLaws.{share-le, share-big, ceiling}
+use Rattle.theory.proofs.PackingLaws.{share-le, share-big}
 use Rattle.packing.specs.Sizes.{shareAt, shareSum, capped, cappedAt, capSum, over}
 
 -- ---- the sums
@@ -33,28 +33,6 @@ unfolding shareSum
 share-tab n f c t =
     ap (λ k. sum k (shareAt (tab n f) c t)) (length-tab n f)
     ∙ sum-cong n (shareAt (tab n f) c t) (λ k. share c t (f k)) (λ k l. ap (share c t) (getD-tab n f 0 k l))
-
--- ---- the test
-
--- a quotient rounded up passes m exactly if the sum passes m times the divisor
-pub test-is : (c m x : ℕ) → 0 < c → ltb m ((x + (c - 1)) / c) ≡ ltb (m * c) x
-test-is c m x h = go (decLt (m * c) x)
-  where
-    go : Dec (m * c < x) → ltb m ((x + (c - 1)) / c) ≡ ltb (m * c) x
-    go (yes q) = lt-ltb m ((x + (c - 1)) / c) (ceiling c m x h .1 q) ∙ sym (lt-ltb (m * c) x q)
-    go (no q) =
-        let far : m < (x + (c - 1)) / c → ⊥ = λ r. q (ceiling c m x h .0 r) in
-        le-ltb m ((x + (c - 1)) / c) (omega (arith, far)) ∙ sym (le-ltb (m * c) x (omega (arith, q)))
-
-pub any-same : (n : ℕ) (f g : ℕ → Bool) → ((i : ℕ) → i < n → f i ≡ g i) → any n f ≡ any n g
-unfolding any
-any-same zero f g h = refl
-any-same (suc n) f g h = ap₂ _||_ (any-same n f g (λ i l. h i (omega arith))) (h n (omega arith))
-
-any-none : (n : ℕ) (f : ℕ → Bool) → ((i : ℕ) → i < n → f i ≡ false) → any n f ≡ false
-unfolding any
-any-none zero f h = refl
-any-none (suc n) f h = ap₂ _||_ (any-none n f (λ i l. h i (omega arith))) (h n (omega arith))
 
 -- ---- the bound for all t
 

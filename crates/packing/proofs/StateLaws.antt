@@ -13,6 +13,8 @@ use Rattle.theory.proofs.SumLaws.{sum-cong}
 use Rattle.theory.specs.Packing.{share}
 use Rattle.theory.specs.Tab.{tab}
 use Rattle.theory.specs.Tests.{any}
+use Rattle.theory.proofs.TestLaws.{any-same}
+use Rattle.theory.proofs.PackingLaws.{ceiling-test}
 use Rattle.year.specs.Sums.{isPlaced, fixedCredits}
 use Rattle.totals.specs.Parts.{courseFrom, highIn, fixedIn}
 use Rattle.year.specs.Sound.{Sound}
@@ -30,7 +32,7 @@ use Rattle.rules.proofs.Narrows.{next-dead}
 use Rattle.packing.specs.Bins.{burstIn, roomIn}
 use Rattle.packing.specs.Sizes.{sizeIn, usedIn, shareSum, over, unpackable}
 use Rattle.theory.proofs.LargestLaws.{largest-most}
-use Rattle.packing.proofs.SizeLaws.{share-pick, share-tab, test-is, any-same}
+use Rattle.packing.proofs.SizeLaws.{share-pick, share-tab}
 
 rule11-is : (y : Year) → rule11 y ≡ choose (unpackable y) (dead 11 y) (live y)
 unfolding rule11 unpackable
@@ -87,7 +89,7 @@ module _ (w : List ℕ) (s : State) (e : s ≡ held (stepIn w s)) where
   bursts-are c a h =
       sym
       (any-same (c / 2 + 1) (bursts (yearIn w s) c) (overIn c)
-      (λ t l. test-is c (s .terms) (shares (yearIn w s) c t) h ∙ ap (ltb (s .terms * c)) (shares-are c t a)))
+      (λ t l. ceiling-test c (s .terms) (shares (yearIn w s) c t) h ∙ ap (ltb (s .terms * c)) (shares-are c t a)))
 
   module _ (a : Sound (yearIn w s)) where
     pub bursting-is : any (s .terms) (burstIn (s .term) (s .sums)) ≡ true → true ≡ unpackable (yearIn w s)

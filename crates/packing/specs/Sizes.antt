@@ -35,6 +35,9 @@ firstOf n f k = pick (ltb k n) (f k)
 
 -- ---- what they count for
 
+abbrev pub sizeAt : List ℕ → ℕ → ℕ
+sizeAt x i = getD x i 0
+
 abbrev pub shareAt : List ℕ → ℕ → ℕ → ℕ → ℕ
 shareAt x c t i = share c t (getD x i 0)
 

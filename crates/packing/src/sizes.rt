@@ -8,12 +8,12 @@ use year::Term;
 use year::Year;
 use year::tighter;
 ghost use mathlib.Core.Path.{_≡_};
-ghost use Prim.Native.Nat.{_+_, _-_, _/_, _≤_};
-ghost use lib.ListN.{length};
+ghost use Prim.Native.Nat.{ℕ, _≤_, _<_};
+ghost use lib.ListN.{length, getD};
 ghost use Rattle.theory.specs.Packing.{share};
+ghost use Rattle.theory.specs.Sum.{sum};
 ghost use Rattle.theory.specs.Tab.{tab};
-ghost use Rattle.theory.specs.Tests.{any};
-ghost use Rattle.packing.specs.Sizes.{sizeOf, sizeIn, usedIn, firstOf, capped, shareSum, capSum, over};
+ghost use Rattle.packing.specs.Sizes.{sizeOf, sizeIn, usedIn, firstOf, sizeAt, capped, shareSum, capSum};
 
 // The weight of a course with several terms.
 fn course_size(c: Course) -> Credits
@@ -80,7 +80,7 @@ fn capped(c: Credits, x: Credits) -> Credits
 }
 
 // What all sizes count for at t.
-fn share_sum(x: &[u32], c: Credits, t: Credits) -> Credits
+pub fn share_sum(x: &[u32], c: Credits, t: Credits) -> Credits
     requires { ⌜ (length (now x) ≤ 64) × (c .0 ≤ 64000) × (t .0 ≤ c .0) ⌝ }
     ensures { λ r. ⌜ (r .0 ≡ shareSum (now (x .entry)) (c .0) (t .0)) × (r .0 ≤ 4096000) ⌝ }
 {
@@ -93,7 +93,7 @@ fn share_sum(x: &[u32], c: Credits, t: Credits) -> Credits
 }
 
 // The most that all sizes count for at any t up to half of c.
-fn cap_sum(x: &[u32], c: Credits) -> Credits
+pub fn cap_sum(x: &[u32], c: Credits) -> Credits
     requires { ⌜ (length (now x) ≤ 64) × (c .0 ≤ 64000) ⌝ }
     ensures { λ r. ⌜ (r .0 ≡ capSum (now (x .entry)) (c .0)) × (r .0 ≤ 4096000) ⌝ }
 {
@@ -105,30 +105,15 @@ fn cap_sum(x: &[u32], c: Credits) -> Credits
     sum
 }
 
-// At some t from 0 to half of c the sizes count for more than the limit.
-fn exceeds(a: &[u32], b: &[u32], c: Credits, limit: Credits) -> bool
-    requires { ⌜ (length (now a) ≤ 64) × (length (now b) ≤ 64) × (c .0 ≤ 64000) ⌝ }
-    ensures { λ r. ⌜ r ≡ any (c .0 / 2 + 1) (over (now (a .entry)) (now (b .entry)) (c .0) (limit .0)) ⌝ }
+// All sizes together.
+pub fn total(x: &[u32]) -> Credits
+    requires { ⌜ length (now x) ≤ 64 ⌝ }
+    requires { ⌜ ((i : ℕ) → i < length (now x) → getD (now x) i 0 ≤ 1000) ⌝ }
+    ensures { λ r. ⌜ (r .0 ≡ sum (length (now (x .entry))) (sizeAt (now (x .entry)))) × (r .0 ≤ 64000) ⌝ }
 {
-    for t in 0..c.0 / 2 + 1 {
-        let x = share_sum(a, c, Credits(t));
-        let y = share_sum(b, c, Credits(t));
-        if limit.0 < x.0 + y.0 {
-            return true;
-        }
+    let mut sum = Credits(0);
+    for i in 0..x.len() {
+        sum.0 += x[i];
     }
-    false
-}
-
-// The same, where one bound for all t often spares the loop over t.
-pub fn overfull(a: &[u32], b: &[u32], c: Credits, limit: Credits) -> bool
-    requires { ⌜ (length (now a) ≤ 64) × (length (now b) ≤ 64) × (c .0 ≤ 64000) ⌝ }
-    ensures { λ r. ⌜ r ≡ any (c .0 / 2 + 1) (over (now (a .entry)) (now (b .entry)) (c .0) (limit .0)) ⌝ }
-{
-    let x = cap_sum(a, c);
-    let y = cap_sum(b, c);
-    if x.0 + y.0 <= limit.0 {
-        return false;
-    }
-    exceeds(a, b, c, limit)
+    sum
 }

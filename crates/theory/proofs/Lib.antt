@@ -15,3 +15,4 @@ pub mod Open
 pub mod Start
 pub mod OrderLaws
 pub mod PackingLaws
+pub mod ThresholdLaws

@@ -6,9 +6,10 @@ use native.Mathlib.Nat.{le-div-iff-mul-le}
 use Prim.Native.Nat.{ℕ, zero, suc, _+_, _-_, _*_, _/_, _≤_, _<_}
 use native.Mathlib.Omega.{arith}
 use native.Mathlib.Decide.{decLt}
-use lib.Dec.{eqb}
-use borrow.Author.Tests.{lt-ltb, le-ltb}
+use lib.Dec.{eqb, ltb}
+use borrow.Author.Tests.{lt-ltb, le-ltb, ltb-true}
 use Rattle.theory.specs.Sum.{pick, sum}
+use Rattle.theory.proofs.TestLaws.{same-tests}
 use Rattle.theory.proofs.SumLaws.{sum-cong, sum-add, sum-swap, sum-point, sum-le-mul}
 use Rattle.theory.proofs.LoadLaws.{load}
 use Rattle.theory.specs.Packing.{share}
@@ -46,6 +47,15 @@ module _ (c t : ℕ) where
       go : Dec (c - t < x) → share c t x ≤ c
       go (yes k) = omega (arith, share-big x k)
       go (no k) = omega (arith, share-le x (omega arith))
+
+-- a size that is not t counts for no less at the next t
+pub share-next : (c t x : ℕ) → (x ≡ t → ⊥) → share c t x ≤ share c (suc t) x
+share-next c t x d = go (decLt (c - t) x) (decLt x t)
+  where
+    go : Dec (c - t < x) → Dec (x < t) → share c t x ≤ share c (suc t) x
+    go (yes k) q = omega (arith, share-big c t x k, share-big c (suc t) x (omega arith))
+    go (no k) (yes q) = omega (arith, share-small c t x (omega arith) q)
+    go (no k) (no q) = omega (arith, share-mid c t x (omega arith) (omega arith), share-ge c (suc t) x (omega arith) (omega (arith, d, q)))
 
 module _ (c t : ℕ) (half : t + t ≤ c) where
   -- two sizes that fit a bin together count for no more than their sum does
@@ -97,7 +107,12 @@ module _ (c t : ℕ) (half : t + t ≤ c) where
             share-top c t (sum n (λ i. pick (eqb (p i) k) (pick (many i) (w i))) + y k) (fits k l),
           )
 
+-- ---- the test without a division
+
 -- the quotient rounded up passes m exactly if the sum passes m * c
 pub ceiling : (c m x : ℕ) → 0 < c → (m < (x + (c - 1)) / c) ↔ (m * c < x)
 ceiling c m x h =
     (λ q. let r : suc m * c ≤ x + (c - 1) = le-div-iff-mul-le h .0 q in omega arith, λ q. le-div-iff-mul-le h .1 (omega arith))
+
+pub ceiling-test : (c m x : ℕ) → 0 < c → ltb m ((x + (c - 1)) / c) ≡ ltb (m * c) x
+ceiling-test c m x h = same-tests _ _ (λ e. lt-ltb (m * c) x (ceiling c m x h .0 (ltb-true m ((x + (c - 1)) / c) e))) (λ e. lt-ltb m ((x + (c - 1)) / c) (ceiling c m x h .1 (ltb-true (m * c) x e)))

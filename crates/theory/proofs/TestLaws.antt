@@ -1,7 +1,8 @@
 -- Laws of tests: of two, of all below n, of some below n.
 use Prim.Native.Nat.{ℕ, zero, suc, _+_, _<_}
 use mathlib.Core.Bool.{Bool, true, false, _&&_, _||_, true≢false}
-use mathlib.Core.Path.{_≡_, refl, ap, sym, _∙_}
+use mathlib.Core.Logic.{_⊎_, inl, inr}
+use mathlib.Core.Path.{_≡_, refl, ap, ap₂, sym, _∙_}
 use native.Mathlib.Numerals.{add-one}
 use native.Mathlib.Nat.{le-refl}
 use native.Mathlib.Decide.{ℕ-discrete}
@@ -21,6 +22,26 @@ and-of false b p q = p
 pub or-false : (a b : Bool) → a || b ≡ false → (a ≡ false) × (b ≡ false)
 or-false true b e = absurd (true≢false e)
 or-false false b e = (refl, e)
+
+pub or-true : (a b : Bool) → a || b ≡ true → (a ≡ true) ⊎ (b ≡ true)
+or-true true b e = inl refl
+or-true false b e = inr e
+
+pub or-left : (a b : Bool) → a ≡ true → a || b ≡ true
+or-left true b e = refl
+or-left false b e = absurd (true≢false (sym e))
+
+pub or-right : (a b : Bool) → b ≡ true → a || b ≡ true
+or-right true b e = refl
+or-right false b e = e
+
+-- two tests that pass together are the same
+pub same-tests : (a b : Bool) → (a ≡ true → b ≡ true) → (b ≡ true → a ≡ true) → a ≡ b
+same-tests true b p q = sym (p refl)
+same-tests false true p q = q refl
+same-tests false false p q = refl
+
+-- ---- all below n
 
 pub all-more : (n : ℕ) (f : ℕ → Bool) → all (n + 1) f ≡ all n f && f n
 unfolding all
@@ -50,6 +71,8 @@ all-false (suc n) f e = go (all n f) refl e (λ q. all-false n f q)
     go true a q ih = (n, le-refl (suc n), q)
     go false a q ih = let r = ih a in (r .0, omega (arith, r .1), r .2)
 
+-- ---- some below n
+
 pub any-more : (n : ℕ) (f : ℕ → Bool) → any (n + 1) f ≡ any n f || f n
 unfolding any
 any-more n f = rw add-one
@@ -78,3 +101,13 @@ any-of n f k l e = go (any n f) refl
     go : (b : Bool) → any n f ≡ b → any n f ≡ true
     go true q = q
     go false q = absurd (true≢false (sym e ∙ any-false n f q k l))
+
+pub any-none : (n : ℕ) (f : ℕ → Bool) → ((i : ℕ) → i < n → f i ≡ false) → any n f ≡ false
+unfolding any
+any-none zero f h = refl
+any-none (suc n) f h = ap₂ _||_ (any-none n f (λ i l. h i (omega arith))) (h n (omega arith))
+
+pub any-same : (n : ℕ) (f g : ℕ → Bool) → ((i : ℕ) → i < n → f i ≡ g i) → any n f ≡ any n g
+unfolding any
+any-same zero f g h = refl
+any-same (suc n) f g h = ap₂ _||_ (any-same n f g (λ i l. h i (omega arith))) (h n (omega arith))

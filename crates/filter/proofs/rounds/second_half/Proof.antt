@@ -1,13 +1,19 @@
 -- Between any two calls the state holds the definition's step, so the next rules may run.
 use mathlib.Core.List.{List}
+use mathlib.Core.Path.{_≡_, sym, ap, _∙_}
 use Prim.Native.Nat.{ℕ}
+use lib.ListN.{length}
 use Rattle.year.specs.declared.Year.{Year}
 use Rattle.frame.specs.State.{yearIn, stepIn}
 use Rattle.rules.specs.Step.{Step}
 use Rattle.rules.specs.Round.{inRow, passesOf}
 use Rattle.rules.proofs.Narrows.{narrower-self}
+use Rattle.rules.specs.Spares.{up}
+use Rattle.orders.specs.Orders.{ordersOf}
+use Rattle.orders.specs.declared.Orders.{Orders}
+use Rattle.orders.proofs.OrderLaws.{up-fits, orders-weights}
 use Rattle.filter.specs.Halves.{secondHalf}
-use Rattle.filter.proofs.StateAt.{Own, own-in, StateAt, state-sound, state-self, state-row}
+use Rattle.filter.proofs.StateAt.{Own, own-in, StateAt, state-sound, state-self, state-row, state-year}
 use Rattle.filter.proofs.rounds.second_half.Statement.{statement}
 use Rattle.filter.proofs.rounds.second_half.Tie as tie
 
@@ -57,19 +63,35 @@ rule-10-requires c κs =
     let r = c .rules-6-to-9 .result in
     (b .pre .0, (state-sound (w b) (y b) (own b) r x (at9 c), state-self (w b) (y b) (own b) r x (at9 c)))
 
+-- no rule alters a weight, so the courses stand in the order that they stood in
+still-rising : (c : tie.After-rule-10) → let b = c .before .before .before in b .args .o .up ≡ up (yearIn (w b) (c .rule-10 .result))
+still-rising c =
+    let b = c .before .before .before in
+    let n = at10 c .narrower in
+    ap (λ (o : Orders). o .up)
+    (b .pre .1 .1 .1
+    ∙ sym (orders-weights (y b) (step10 b .year) (n .courses-same) (n .weight-same))
+    ∙ ap ordersOf (sym (state-year (w b) (y b) (own b) (c .rule-10 .result) (step10 b) (at10 c))))
+
+slice-aggregate-rule-11 : tie.Need-slice-aggregate-rule-11
+slice-aggregate-rule-11 c =
+    let b = c .before .before .before .before .before in
+    sym (ap (λ (o : Orders). length (o .up)) (b .pre .1 .1 .1) ∙ up-fits (y b) (b .pre .1 .0) .long)
+
 rule-11-requires : tie.Need-rule-11-requires
 rule-11-requires c κs =
-    let b = c .before .before .before in
+    let d = c .before .before in
+    let b = d .before .before .before in
     let x = step10 b in
-    let r = c .rule-10 .result in
-    (b .pre .0, (state-sound (w b) (y b) (own b) r x (at10 c), state-self (w b) (y b) (own b) r x (at10 c)))
+    let r = d .rule-10 .result in
+    (b .pre .0, (state-sound (w b) (y b) (own b) r x (at10 d), (state-self (w b) (y b) (own b) r x (at10 d), still-rising d)))
 
 returns : tie.Need-returns
 unfolding secondHalf
 returns c =
-    let a = c .before in
+    let a = c .before .before .before in
     let b = a .before .before .before in
     state-row (w b) (y b) (own b) (a .rule-10 .result) (step10 b) (at10 a) 11 11 (c .rule-11 .result) (c .rule-11 .ensures) .is
 
 pub second-half-spec : {M : Type 1} → statement M
-second-half-spec = tie.close (tie.spec rules-6-to-9-requires rule-10-requires rule-11-requires returns)
+second-half-spec = tie.close (tie.spec rules-6-to-9-requires rule-10-requires slice-aggregate-rule-11 rule-11-requires returns)
