@@ -6,26 +6,44 @@ use std::path::Path;
 
 use crate::corpus::{self, Kind};
 use crate::picture;
+use crate::shares::{self, Counted};
 use crate::timing::{self, Call};
 
-/// The times of the lists of one file, in nanoseconds.
+/// The times of some lists, in nanoseconds; Gecode's may be missing.
+#[derive(Default)]
 pub struct Times {
     pub library: Vec<f64>,
     pub independent: Vec<f64>,
-    pub gecode: Option<Vec<f64>>,
+    pub gecode: Vec<f64>,
 }
+
+impl Times {
+    /// Takes over the times of those lists among others on which rule 11 went past its bound.
+    fn take_past(&mut self, other: &Times, counted: &[Counted]) {
+        let past = |times: &[f64]| -> Vec<f64> {
+            times.iter().zip(counted).filter(|(_, list)| list.past).map(|(&time, _)| time).collect()
+        };
+        self.library.extend(past(&other.library));
+        self.independent.extend(past(&other.independent));
+        self.gecode.extend(past(&other.gecode));
+    }
+}
+
+const HEAD: &str =
+    "| years | library, µs | independent, µs | ratio (worst) | Gecode, µs | ratio (worst) | instructions |\n\
+    |---|---|---|---|---|---|---|";
 
 /// Prints all tables and draws the picture.
 pub fn make(folder: &Path, docs: &Path) -> io::Result<()> {
-    println!("| years | library, µs | independent, µs | ratio (worst) | Gecode, µs | ratio (worst) | instructions |");
-    println!("|---|---|---|---|---|---|---|");
-    for kind in corpus::KINDS {
-        row(folder, &kind)?;
+    println!("{HEAD}");
+    let mut kinds = vec![];
+    for kind in &corpus::KINDS {
+        kinds.push((kind.name, of_kind(folder, kind)?));
     }
-    println!("\nApart, since rule 11's plain form costs most on large bounds:\n");
-    println!("| years | library, µs | independent, µs | ratio (worst) | Gecode, µs | ratio (worst) | instructions |");
-    println!("|---|---|---|---|---|---|---|");
-    row(folder, &corpus::LARGE)?;
+    println!("\nApart, since rule 11's plain form costs most on large bounds, and past the one bound that often spares it:\n");
+    println!("{HEAD}");
+    kinds.push((corpus::LARGE.name, of_kind(folder, &corpus::LARGE)?));
+    past_the_bound(folder, &kinds)?;
     imbalances(folder)?;
 
     let courses = growth(folder, "courses", &corpus::COURSES, |n| corpus::sized(16, n))?;
@@ -42,22 +60,40 @@ fn times(folder: &Path, file: &str) -> io::Result<Times> {
     })
 }
 
-/// One kind: medians of the times, and of the ratio of each list with the worst.
-fn row(folder: &Path, kind: &Kind) -> io::Result<()> {
+/// The row of a kind, and its times.
+fn of_kind(folder: &Path, kind: &Kind) -> io::Result<Times> {
     let times = times(folder, kind.name)?;
-    let (gecode, ratio) = match &times.gecode {
-        Some(gecode) => (microseconds(gecode), ratios(&times.library, gecode)),
-        None => ("-".to_string(), "-".to_string()),
-    };
+    row(kind.words, &times, &instructions(folder, kind.name));
+    Ok(times)
+}
+
+/// The row of the lists of all kinds on which rule 11 goes past its bound, where callgrind told which they are.
+fn past_the_bound(folder: &Path, kinds: &[(&str, Times)]) -> io::Result<()> {
+    let mut past = Times::default();
+    let mut all = 0;
+    for (name, times) in kinds {
+        match shares::counted(folder, name)? {
+            Some(lists) => {
+                past.take_past(times, &lists);
+                all += lists.len();
+            }
+            None => return Ok(()),
+        }
+    }
+    row(&format!("lists on which rule 11 goes past its bound: {} of {all}", past.library.len()), &past, "-");
+    Ok(())
+}
+
+/// Medians of the times, and of the ratio of each list with the worst.
+fn row(words: &str, times: &Times, instructions: &str) {
     println!(
-        "| {} | {} | {} | {} | {gecode} | {ratio} | {} |",
-        kind.words,
+        "| {words} | {} | {} | {} | {} | {} | {instructions} |",
         microseconds(&times.library),
         microseconds(&times.independent),
         ratios(&times.library, &times.independent),
-        instructions(folder, kind.name),
+        microseconds(&times.gecode),
+        ratios(&times.library, &times.gecode),
     );
-    Ok(())
 }
 
 /// The imbalance of settled years, which is given, and of full ones, where it is refused by 14: beside a filtering of the
@@ -90,15 +126,16 @@ fn growth(folder: &Path, what: &str, sizes: &[usize], file: impl Fn(usize) -> St
     println!("|---|---|---|---|");
     for &size in sizes {
         let times = times(folder, &file(size))?;
+        println!(
+            "| {size} | {} | {} | {} |",
+            microseconds(&times.library),
+            microseconds(&times.independent),
+            microseconds(&times.gecode)
+        );
         lines.library.push(median(&times.library));
-        let gecode = match &times.gecode {
-            Some(gecode) => {
-                lines.gecode.push(median(gecode));
-                microseconds(gecode)
-            }
-            None => "-".to_string(),
-        };
-        println!("| {size} | {} | {} | {gecode} |", microseconds(&times.library), microseconds(&times.independent));
+        if !times.gecode.is_empty() {
+            lines.gecode.push(median(&times.gecode));
+        }
     }
     Ok(lines)
 }
@@ -113,7 +150,9 @@ fn instructions(folder: &Path, name: &str) -> String {
 
 fn microseconds(times: &[f64]) -> String {
     let middle = median(times) / 1000.0;
-    if middle < 10.0 {
+    if times.is_empty() {
+        "-".to_string()
+    } else if middle < 10.0 {
         format!("{middle:.1}")
     } else {
         format!("{middle:.0}")
@@ -123,6 +162,9 @@ fn microseconds(times: &[f64]) -> String {
 /// The median of the lists' ratios, and the largest.
 fn ratios(over: &[f64], under: &[f64]) -> String {
     let each: Vec<f64> = over.iter().zip(under).map(|(a, b)| a / b).collect();
+    if each.is_empty() {
+        return "-".to_string();
+    }
     let worst = each.iter().copied().fold(0.0, f64::max);
     format!("{:.3} ({worst:.2})", median(&each))
 }

@@ -57,14 +57,14 @@ pub fn independent(lists: &[Vec<u8>], call: Call) -> Vec<f64> {
     }
 }
 
-/// A filtering by Gecode's root propagation, if its peer stands there.
-pub fn gecode(peer: &Path, file: &Path) -> io::Result<Option<Vec<f64>>> {
+/// A filtering by Gecode's root propagation; no times where its peer does not stand.
+pub fn gecode(peer: &Path, file: &Path) -> io::Result<Vec<f64>> {
     if !peer.exists() {
-        return Ok(None);
+        return Ok(vec![]);
     }
     let output = Command::new(peer).arg(file).output()?;
     let text = String::from_utf8_lossy(&output.stdout).into_owned();
-    Ok(Some(text.lines().filter_map(|line| line.parse().ok()).collect()))
+    Ok(text.lines().filter_map(|line| line.parse().ok()).collect())
 }
 
 /// The time of a call in the quickest batch, in nanoseconds.
