@@ -31,6 +31,29 @@ pub fn filter(year: &Year, trap: Trap) -> (Answer, Year) {
 
 /// Filters a year with the given rules in the given order.
 pub fn filter_by(year: &Year, rules: &[u8], trap: Trap) -> (Answer, Year) {
+    filter_watched(year, rules, trap, &mut |_, _| ())
+}
+
+/// The year as it stands before a rule, for each round that comes to the rule. Where
+/// the rule found no plan, that was on the last of them.
+pub fn years_before(year: &Year, rule: u8) -> Vec<Year> {
+    let mut years = vec![];
+    let mut watch = |next: u8, now: &Year| {
+        if next == rule {
+            years.push(now.clone());
+        }
+    };
+    filter_watched(year, &IN_ORDER, Trap::None, &mut watch);
+    years
+}
+
+/// Filters as above; each rule is shown with the year before it runs.
+fn filter_watched(
+    year: &Year,
+    rules: &[u8],
+    trap: Trap,
+    watch: &mut dyn FnMut(u8, &Year),
+) -> (Answer, Year) {
     if !year.is_sound() {
         return (Answer::Refused { number: 8, place: 0 }, year.clone());
     }
@@ -40,6 +63,7 @@ pub fn filter_by(year: &Year, rules: &[u8], trap: Trap) -> (Answer, Year) {
         let before = now.clone();
         rounds += 1;
         for &rule in rules {
+            watch(rule, &now);
             if run_rule(&mut now, rule, trap).is_err() {
                 return (Answer::NoPlan { rule, round: rounds }, year.clone());
             }

@@ -353,15 +353,24 @@ pub fn rule_10(year: &mut Year, j: usize) -> Step {
 
 /// Rule 11: If p exceeds high credits for some term, no plan. Let c be the largest high
 /// credits; with c = 0 stop here. If for some t the sum divided by c, rounded up,
-/// exceeds the number of terms: no plan.
+/// exceeds the number of terms: no plan. (The t that are tried are those of 02, A2.)
 pub fn rule_11(year: &mut Year, trap: Trap) -> Step {
-    let terms = year.terms.len();
-    no_plan_if((0..terms).any(|j| small_p(year, j) > year.terms[j].high_credits))?;
-    let c = year.terms.iter().map(|term| term.high_credits).max().expect("a year has a term");
+    no_plan_if(p_exceeds_high_credits(year))?;
+    let c = largest_high_credits(year);
     if c == 0 {
         return Ok(());
     }
-    no_plan_if(largest_quotient(&sizes(year, c), c, trap) > terms as i64)
+    no_plan_if(largest_quotient(&sizes(year, c), c, trap) > year.terms.len() as i64)
+}
+
+/// p exceeds high credits for some term.
+pub fn p_exceeds_high_credits(year: &Year) -> bool {
+    (0..year.terms.len()).any(|j| small_p(year, j) > year.terms[j].high_credits)
+}
+
+/// c, the largest high credits.
+pub fn largest_high_credits(year: &Year) -> i64 {
+    year.terms.iter().map(|term| term.high_credits).max().expect("a year has a term")
 }
 
 /// Sizes: each open course's weight once, and for each term c - (high credits - p).
@@ -373,23 +382,58 @@ pub fn sizes(year: &Year, c: i64) -> Vec<i64> {
     weights.chain(filled).collect()
 }
 
-/// The largest over whole t from 0 to c/2 of the sum divided by c, rounded up.
+/// "Let it try only the sizes that are at most c/2, and c/2 rounded down" (02, A2):
+/// each once, rising.
+pub fn thresholds(sizes: &[i64], c: i64) -> Vec<i64> {
+    let mut found = sizes_up_to(sizes, c / 2);
+    found.push(c / 2);
+    found.dedup();
+    found
+}
+
+/// The sizes that are at most a number, each once, rising. Sizes are whole, so those
+/// at most c/2 are those at most c/2 rounded down.
+fn sizes_up_to(sizes: &[i64], most: i64) -> Vec<i64> {
+    let mut found: Vec<i64> = sizes.iter().copied().filter(|&size| size <= most).collect();
+    found.sort();
+    found.dedup();
+    found
+}
+
+/// The largest over the thresholds of the sum divided by c, rounded up.
 pub fn largest_quotient(sizes: &[i64], c: i64, trap: Trap) -> i64 {
-    (0..=c / 2)
-        .map(|t| {
-            let sum: i64 = sizes.iter().map(|&size| counts_as(size, c, t)).sum();
-            if trap == Trap::RoundDown {
-                sum / c
-            } else {
-                (sum + c - 1) / c
-            }
-        })
-        .max()
-        .expect("t = 0 is always tried")
+    largest_quotient_over(&thresholds(sizes, c), sizes, c, trap)
+}
+
+/// As 01 has it: the largest over each whole t from 0 to c/2. It is to be equal to the
+/// largest over the thresholds, and stands here to check that.
+pub fn largest_quotient_by_every_t(sizes: &[i64], c: i64) -> i64 {
+    let every_t: Vec<i64> = (0..=c / 2).collect();
+    largest_quotient_over(&every_t, sizes, c, Trap::None)
+}
+
+/// The largest over some t of the sum divided by c, rounded up.
+fn largest_quotient_over(tried: &[i64], sizes: &[i64], c: i64, trap: Trap) -> i64 {
+    tried.iter().map(|&t| quotient_at(sizes, c, t, trap)).max().expect("some t is tried")
+}
+
+/// The sum at t divided by c, rounded up.
+pub fn quotient_at(sizes: &[i64], c: i64, t: i64, trap: Trap) -> i64 {
+    let sum = sum_at(sizes, c, t);
+    if trap == Trap::RoundDown {
+        sum / c
+    } else {
+        (sum + c - 1) / c
+    }
+}
+
+/// What all sizes count for at t.
+pub fn sum_at(sizes: &[i64], c: i64, t: i64) -> i64 {
+    sizes.iter().map(|&size| counts_as(size, c, t)).sum()
 }
 
 /// A size above c - t counts c, a size below t counts 0, any other counts itself.
-fn counts_as(size: i64, c: i64, t: i64) -> i64 {
+pub fn counts_as(size: i64, c: i64, t: i64) -> i64 {
     if size > c - t {
         c
     } else if size < t {
