@@ -20,7 +20,8 @@ const FIXED_SEEDS: [u64; 2] = [1, 2];
 /// ones, on which the independent program is slow.
 fn share(kind: Kind) -> u64 {
     match kind {
-        Kind::Small => 46,
+        Kind::Small => 38,
+        Kind::Crowded => 8,
         Kind::Hidden => 6,
         Kind::Spoilt => 6,
         Kind::Edges => 3,

@@ -1,6 +1,6 @@
 //! Seeded makers of years and lists: small years dense in every rule, years with a
-//! hidden plan, the edges of every size, damaged lists, arbitrary bytes, and years
-//! whose courses are placed, to be measured.
+//! hidden plan, the edges of every size, damaged lists, arbitrary bytes, years whose
+//! courses are placed, to be measured, and crowded years, for rule 11.
 
 use crate::filter::{filter, Answer};
 use crate::records::{bytes, RECORD};
@@ -65,10 +65,14 @@ pub enum Kind {
     Damaged,
     Arbitrary,
     Placed,
+    Crowded,
 }
 
-pub const KINDS: [Kind; 7] = [
+/// The kinds in the order in which they are run: first the two that are quick and
+/// show every trap.
+pub const KINDS: [Kind; 8] = [
     Kind::Small,
+    Kind::Crowded,
     Kind::Hidden,
     Kind::Spoilt,
     Kind::Edges,
@@ -87,6 +91,7 @@ pub fn list(kind: Kind, random: &mut Random) -> Vec<u8> {
         Kind::Damaged => damaged(random),
         Kind::Arbitrary => arbitrary(random),
         Kind::Placed => placed_list(random),
+        Kind::Crowded => bytes(&crowded(random)),
     }
 }
 
@@ -703,6 +708,138 @@ fn list_one_more(random: &mut Random, year: &mut Year) {
     let course = random.below(year.courses.len());
     let own = year.courses[course].list.trailing_zeros() as usize;
     year.courses[course].list |= 1 << ((own + 1 + random.below(terms - 1)) % terms);
+}
+
+// ---- (g) Crowded years, for rule 11 ----
+
+/// The t of rule 11 that a crowded year is made for: c/2 where it is no size, a term's
+/// size that no course has, or a course's size.
+#[derive(Clone, Copy, Debug, PartialEq, Eq)]
+enum Aim {
+    Half,
+    TermSize,
+    CourseSize,
+}
+
+/// A year of terms with high credits c and wide counts, some of its courses above half
+/// of c and some placed. Most are too full by a little, and rule 11 finds it at few t,
+/// in many at one alone; or are only just not too full.
+pub fn crowded(random: &mut Random) -> Year {
+    let aim = random.pick(&[Aim::Half, Aim::TermSize, Aim::CourseSize]);
+    let c = random.pick(&[10, 11, 16, 17, 20, 21, 60, 61, 900, 901]);
+    let t = match aim {
+        Aim::Half => c / 2,
+        // Beside a placed course of t there is to be room for two above t.
+        Aim::TermSize => random.from(2, (c - 2) / 3),
+        Aim::CourseSize => random.from(2, c / 2),
+    };
+    let mut year = full_at(random, aim, c, t);
+    if random.percent(85) {
+        overfill(random, &mut year, aim, c, t);
+    }
+    add_light_courses(random, &mut year, c, t);
+    open_lists(random, &mut year, aim);
+    let order = shuffled(random, year.courses.len());
+    year.courses = order.iter().map(|&i| year.courses[i]).collect();
+    year
+}
+
+/// Terms that are full as rule 11 counts at t: each with a heavy course alone, which
+/// counts c, or with two that fill it. Every course lists the term that it is meant for.
+/// For a term's size, the first course weighs t and has two beside it.
+fn full_at(random: &mut Random, aim: Aim, c: i64, t: i64) -> Year {
+    let terms = random.pick(&[2, 3, 3, 3, 3, 4, 4, 4, 6, 16]) as usize;
+    let term = Term { low_credits: 0, high_credits: c, low_count: 0, high_count: MOST_COUNT };
+    let mut year = Year { terms: vec![term; terms], courses: vec![] };
+    let (least, most) = filling(aim, c, t);
+    for j in shuffled(random, terms) {
+        let weights = if aim == Aim::TermSize && year.courses.is_empty() {
+            let second = random.from(least, most - t);
+            vec![t, second, c - t - second]
+        } else if least > most || random.percent(60) {
+            vec![heavy(random, c, t)]
+        } else {
+            let first = random.from(least, most);
+            vec![first, c - first]
+        };
+        year.courses.extend(weights.into_iter().map(|weight| Course { weight, list: 1 << j }));
+    }
+    year
+}
+
+/// The least and the most weight of a course that fills a term with another: each
+/// counts itself at t. Where the aim is no course's size, none is to weigh t.
+fn filling(aim: Aim, c: i64, t: i64) -> (i64, i64) {
+    let least = if aim == Aim::CourseSize { t } else { t + 1 };
+    (least, c - least)
+}
+
+/// A weight above c - t, with room beside it for about half of t.
+fn heavy(random: &mut Random, c: i64, t: i64) -> i64 {
+    random.from(c - t + 1, c - (t + 1) / 2)
+}
+
+/// Credits that fit beside all courses.
+fn room(year: &Year) -> i64 {
+    let high: i64 = year.terms.iter().map(|term| term.high_credits).sum();
+    high - crate::rules::all_credits(year)
+}
+
+/// Too much at t, where there is room for it beside the heavy courses (else rule 2 would
+/// find it): for c/2 one more heavy course; else a course made heavier, by at most t,
+/// so that no larger t finds it too.
+fn overfill(random: &mut Random, year: &mut Year, aim: Aim, c: i64, t: i64) {
+    let room = room(year);
+    if aim == Aim::Half {
+        let weight = heavy(random, c, t);
+        if weight <= room {
+            year.courses.push(Course { weight, list: 1 << random.below(year.terms.len()) });
+        }
+        return;
+    }
+    let (least, most) = filling(aim, c, t);
+    let more = random.from(1, t).min(room);
+    let fit = |weight: i64| weight >= least && weight + more <= most;
+    let fitting: Vec<usize> =
+        (0..year.courses.len()).filter(|&i| fit(year.courses[i].weight)).collect();
+    if !fitting.is_empty() {
+        year.courses[random.pick(&fitting)].weight += more;
+    }
+}
+
+/// Courses below t, which count 0, into most of the room. In most years none is heavier
+/// than what is left beside the heaviest course, so that no smaller t finds too much.
+fn add_light_courses(random: &mut Random, year: &mut Year, c: i64, t: i64) {
+    let heaviest = year.courses.iter().map(|course| course.weight).max().expect("a course");
+    let most = if random.percent(70) { (c - heaviest).min(t - 1) } else { t - 1 };
+    let mut room = room(year) - random.pick(&[0, 0, 1, 2, t]);
+    for _ in 0..5 {
+        if room > 0 {
+            let weight = random.from(1, most.min(room));
+            year.courses.push(Course { weight, list: 1 << random.below(year.terms.len()) });
+            room -= weight;
+        }
+    }
+}
+
+/// Most courses get all terms, some get a few, and some stay placed, as the first course
+/// does for a term's size. Where the first is placed, it is at times taken away, and its
+/// term's high credits are lowered by it.
+fn open_lists(random: &mut Random, year: &mut Year, aim: Aim) {
+    let terms = year.terms.len();
+    for i in 0..year.courses.len() {
+        match random.below(100) {
+            _ if aim == Aim::TermSize && i == 0 => {}
+            0..=74 => year.courses[i].list = full_list(terms),
+            75..=89 => year.courses[i].list |= some_list(random, terms),
+            _ => {}
+        }
+    }
+    let first = year.courses[0];
+    if first.listed() == 1 && random.percent(30) {
+        year.terms[first.list.trailing_zeros() as usize].high_credits -= first.weight;
+        year.courses.remove(0);
+    }
 }
 
 // ---- Lists for timing ----
