@@ -1,5 +1,5 @@
-//! Tests of the test: with any one of document 01's five traps in the independent program, the comparison through the
-//! boundary fails and shows the list and both listings; without a trap it does not fail.
+//! Tests of the test: with any one trap in the independent program, of document 01 or of request A2, the comparison
+//! through the boundary fails and shows the list and both listings; without a trap it does not fail.
 
 use compare::Library;
 use independent::compare::{hex, run};

@@ -360,7 +360,11 @@ pub fn rule_11(year: &mut Year, trap: Trap) -> Step {
     if c == 0 {
         return Ok(());
     }
-    no_plan_if(largest_quotient(&sizes(year, c), c, trap) > year.terms.len() as i64)
+    let occurring =
+        if trap == Trap::TermSizesLeftOut { course_sizes(year) } else { sizes(year, c) };
+    let tried = tried(&occurring, c, trap);
+    let quotient = largest_quotient_over(&tried, &sizes(year, c), c, trap);
+    no_plan_if(quotient > year.terms.len() as i64)
 }
 
 /// p exceeds high credits for some term.
@@ -375,11 +379,19 @@ pub fn largest_high_credits(year: &Year) -> i64 {
 
 /// Sizes: each open course's weight once, and for each term c - (high credits - p).
 pub fn sizes(year: &Year, c: i64) -> Vec<i64> {
+    [course_sizes(year), term_sizes(year, c)].concat()
+}
+
+/// The courses' sizes: each open course's weight once.
+pub fn course_sizes(year: &Year) -> Vec<i64> {
     let open_courses = year.courses.iter().filter(|course| course.listed() > 1);
-    let weights = open_courses.map(|course| course.weight);
+    open_courses.map(|course| course.weight).collect()
+}
+
+/// The terms' sizes: for each term c - (high credits - p).
+pub fn term_sizes(year: &Year, c: i64) -> Vec<i64> {
     let terms = 0..year.terms.len();
-    let filled = terms.map(|j| c - (year.terms[j].high_credits - small_p(year, j)));
-    weights.chain(filled).collect()
+    terms.map(|j| c - (year.terms[j].high_credits - small_p(year, j))).collect()
 }
 
 /// "Let it try only the sizes that are at most c/2, and c/2 rounded down" (02, A2):
@@ -400,9 +412,18 @@ fn sizes_up_to(sizes: &[i64], most: i64) -> Vec<i64> {
     found
 }
 
+/// The t that are tried: the thresholds; with two of the traps too few or too many.
+fn tried(sizes: &[i64], c: i64, trap: Trap) -> Vec<i64> {
+    match trap {
+        Trap::HalfLeftOut => sizes_up_to(sizes, c / 2),
+        Trap::SizesAboveHalf => [thresholds(sizes, c), sizes_up_to(sizes, c)].concat(),
+        _ => thresholds(sizes, c),
+    }
+}
+
 /// The largest over the thresholds of the sum divided by c, rounded up.
 pub fn largest_quotient(sizes: &[i64], c: i64, trap: Trap) -> i64 {
-    largest_quotient_over(&thresholds(sizes, c), sizes, c, trap)
+    largest_quotient_over(&tried(sizes, c, trap), sizes, c, trap)
 }
 
 /// As 01 has it: the largest over each whole t from 0 to c/2. It is to be equal to the
@@ -412,14 +433,18 @@ pub fn largest_quotient_by_every_t(sizes: &[i64], c: i64) -> i64 {
     largest_quotient_over(&every_t, sizes, c, Trap::None)
 }
 
-/// The largest over some t of the sum divided by c, rounded up.
+/// The largest over some t of the sum divided by c, rounded up; over no t, 0.
 fn largest_quotient_over(tried: &[i64], sizes: &[i64], c: i64, trap: Trap) -> i64 {
-    tried.iter().map(|&t| quotient_at(sizes, c, t, trap)).max().expect("some t is tried")
+    tried.iter().map(|&t| quotient_at(sizes, c, t, trap)).max().unwrap_or(0)
 }
 
 /// The sum at t divided by c, rounded up.
 pub fn quotient_at(sizes: &[i64], c: i64, t: i64, trap: Trap) -> i64 {
-    let sum = sum_at(sizes, c, t);
+    let sum = if trap == Trap::OwnSizeCountsNothing {
+        sum_at(&all_but(sizes, t), c, t)
+    } else {
+        sum_at(sizes, c, t)
+    };
     if trap == Trap::RoundDown {
         sum / c
     } else {
@@ -441,4 +466,9 @@ pub fn counts_as(size: i64, c: i64, t: i64) -> i64 {
     } else {
         size
     }
+}
+
+/// The sizes that are not t.
+fn all_but(sizes: &[i64], t: i64) -> Vec<i64> {
+    sizes.iter().copied().filter(|&size| size != t).collect()
 }

@@ -9,7 +9,7 @@ use independent::generate::Kind;
 use independent::planner::{Independent, Planner};
 use independent::plans;
 use independent::records;
-use independent::traps::{Trap, TRAPS};
+use independent::traps::{Trap, TRAPS, TRAPS_OF_A2};
 use independent::year::*;
 
 const RIGHT: Independent = Independent { trap: Trap::None };
@@ -56,6 +56,49 @@ fn every_trap_is_found() {
         for seed in [1, 2, 3] {
             let found = compare::run(&RIGHT, &Independent { trap }, 3_000, seed);
             assert!(found.is_err(), "trap {trap:?} with seed {seed}");
+        }
+    }
+}
+
+/// The crowded lists alone find each trap of A2, from every seed and soon.
+#[test]
+fn traps_of_rule_11_are_found_by_crowded_lists() {
+    for trap in TRAPS_OF_A2 {
+        for seed in [1, 2, 3] {
+            let trapped = Independent { trap };
+            let found = compare::run_kinds(&RIGHT, &trapped, &[Kind::Crowded], 300, seed);
+            assert!(found.is_err(), "trap {trap:?} with seed {seed}");
+        }
+    }
+}
+
+/// A size above c/2 as threshold makes rule 11 find no plan where there is one. Two
+/// programs with this trap are alike, and are found by the plans of small years, and by
+/// the hidden plan of a large one.
+#[test]
+fn sizes_above_half_lose_plans() {
+    let trapped = Independent { trap: Trap::SizesAboveHalf };
+    for (kind, expected) in [
+        (Kind::Crowded, "no plan, but there are plans"),
+        (Kind::Small, "no plan, but there are plans"),
+        (Kind::Hidden, "no plan, but a plan was hidden"),
+    ] {
+        let found = compare::run_kinds(&trapped, &trapped, &[kind], 300, 1);
+        let mismatch = found.expect_err("plans are lost");
+        assert_eq!(mismatch.what, expected, "{kind:?}");
+        assert!(mismatch.listings[0].starts_with("NOPLAN 11 "), "{mismatch}");
+    }
+}
+
+/// The other traps of A2 try too little or count too little: they lose no plan, so that
+/// it takes a right program to find them.
+#[test]
+fn other_traps_of_rule_11_lose_no_plan() {
+    for trap in [Trap::HalfLeftOut, Trap::TermSizesLeftOut, Trap::OwnSizeCountsNothing] {
+        let trapped = Independent { trap };
+        let kinds = [Kind::Crowded, Kind::Small];
+        if let Err(mismatch) = compare::run_kinds(&trapped, &trapped, &kinds, 500, 1) {
+            panic!("{mismatch}");
         }
     }
 }

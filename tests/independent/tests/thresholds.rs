@@ -84,6 +84,25 @@ fn both_forms_agree_on_random_sizes() {
     assert!(by_one_t_only > 500, "{by_one_t_only}");
 }
 
+/// Rows 8 and 9 of the proved table, and two lists more: with a trap the quotient is
+/// another. (Which sizes are the terms' a list of sizes does not tell.)
+#[test]
+fn quotients_with_the_traps() {
+    let quotient = |sizes: &[i64], trap: Trap| largest_quotient(sizes, 10, trap);
+    // 5 is tried, and 6 is above 10 - 5; where 5 is not tried, nothing is.
+    assert_eq!(quotient(&[6, 6, 6], Trap::None), 3);
+    assert_eq!(quotient(&[6, 6, 6], Trap::HalfLeftOut), 0);
+    // 5 is a size, and counts itself at 5.
+    assert_eq!(quotient(&[5, 5, 5], Trap::None), 2);
+    assert_eq!(quotient(&[5, 5, 5], Trap::HalfLeftOut), 2);
+    assert_eq!(quotient(&[5, 5, 5], Trap::OwnSizeCountsNothing), 0);
+    // At 7 a size of 4 would be above 10 - 7, and count 10.
+    assert_eq!(quotient(&[7, 4, 4, 4], Trap::None), 3);
+    assert_eq!(quotient(&[7, 4, 4, 4], Trap::SizesAboveHalf), 4);
+    // A size above c is no threshold even so: at 12 everything would count 10.
+    assert_eq!(quotient(&[12, 4, 4, 4], Trap::SizesAboveHalf), 3);
+}
+
 /// The two forms agree wherever filtering comes to rule 11, so that answers and rounds
 /// are those of 01.
 #[test]
