@@ -6,12 +6,13 @@ use std::collections::BTreeMap;
 use std::fmt;
 use std::ops::Range;
 
-use crate::filter::Answer;
+use crate::filter::{years_before, Answer};
 use crate::generate::{self, Kind, Random, KINDS};
 use crate::narrow::Narrowing;
 use crate::planner::Planner;
 use crate::plans;
 use crate::records;
+use crate::rules;
 use crate::year::Year;
 
 /// Lent buffers are filled with this pattern and are longer than the records by one
@@ -24,6 +25,14 @@ const MOST_PLACINGS: u128 = 4_096;
 
 /// "Rounds are at most 1,025,985."
 const MOST_ROUNDS: u32 = 1_025_985;
+
+/// The ways in which rule 11 finds no plan, as outcomes: p exceeds high credits in some
+/// term, or the quotient exceeds the number of terms at some threshold. Of the latter:
+/// at c/2 alone, which is no size; at terms' sizes alone, none a course's size or c/2.
+pub const BY_P: &str = "NOPLAN 11 by p over high credits";
+pub const BY_A_THRESHOLD: &str = "NOPLAN 11 by a threshold";
+pub const ONLY_AT_HALF: &str = "NOPLAN 11 only at c/2";
+pub const ONLY_AT_A_TERM: &str = "NOPLAN 11 only at a term's size";
 
 /// How often each outcome was seen, by kind of list.
 #[derive(Clone, Debug, Default)]
@@ -58,7 +67,16 @@ impl fmt::Display for Counts {
             let seen = outcomes.iter().map(|(outcome, number)| format!("{outcome}: {number}"));
             writeln!(f, "{kind}: {}", seen.collect::<Vec<_>>().join(", "))?;
         }
-        Ok(())
+        writeln!(
+            f,
+            "rule 11 ended {} lists: {} by p over high credits, {} by a threshold, of these {} only \
+             at c/2 and {} only at a term's size",
+            self.seen("NOPLAN 11"),
+            self.seen(BY_P),
+            self.seen(BY_A_THRESHOLD),
+            self.seen(ONLY_AT_HALF),
+            self.seen(ONLY_AT_A_TERM)
+        )
     }
 }
 
@@ -295,11 +313,14 @@ impl Both<'_> {
         self.demand(number == 0 && again == list, list, "round trip")?;
 
         let (answer, filtered) = self.filter(list)?;
+        let year = self.year_of(list)?;
         note(word(answer));
+        if matches!(answer, Answer::NoPlan { rule: 11, .. }) {
+            ways_of_rule_11(&year).iter().for_each(|way| note(way.to_string()));
+        }
         self.check_filtered(list, answer, &filtered)?;
         self.short_buffers(list)?;
 
-        let year = self.year_of(list)?;
         self.check_imbalance(list, &year, answer, note)?;
         self.check_narrowings(list, &year, random, note)?;
         if plans::placings(&year) <= MOST_PLACINGS {
@@ -483,6 +504,33 @@ fn word(answer: Answer) -> String {
         Answer::Open { .. } => "OPEN".to_string(),
         Answer::NoPlan { rule, .. } => format!("NOPLAN {rule:02}"),
     }
+}
+
+/// How rule 11 finds no plan, for the counts, on the last year that it meets: by this
+/// program's filtering, so that no planner is asked. None where it finds nothing there,
+/// as it may when two wrong programs are compared.
+fn ways_of_rule_11(year: &Year) -> Vec<&'static str> {
+    let met = match years_before(year, 11).pop() {
+        Some(met) => met,
+        None => return vec![],
+    };
+    if rules::p_exceeds_high_credits(&met) {
+        return vec![BY_P];
+    }
+    let c = rules::largest_high_credits(&met);
+    let found = if c == 0 { vec![] } else { rules::exceeding_thresholds(&met, c) };
+    if found.is_empty() {
+        return vec![];
+    }
+    let (of_courses, of_terms) = (rules::course_sizes(&met), rules::term_sizes(&met, c));
+    let mut ways = vec![BY_A_THRESHOLD];
+    if found.iter().all(|t| !of_courses.contains(t) && !of_terms.contains(t)) {
+        ways.push(ONLY_AT_HALF);
+    }
+    if found.iter().all(|&t| !of_courses.contains(&t) && t != c / 2) {
+        ways.push(ONLY_AT_A_TERM);
+    }
+    ways
 }
 
 /// The word for the counts of how large an imbalance is. From 2^32 it no longer fits

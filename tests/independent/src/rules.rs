@@ -421,6 +421,13 @@ fn tried(sizes: &[i64], c: i64, trap: Trap) -> Vec<i64> {
     }
 }
 
+/// The thresholds at which the quotient exceeds the number of terms.
+pub fn exceeding_thresholds(year: &Year, c: i64) -> Vec<i64> {
+    let sizes = sizes(year, c);
+    let exceeds = |&t: &i64| quotient_at(&sizes, c, t, Trap::None) > year.terms.len() as i64;
+    thresholds(&sizes, c).into_iter().filter(exceeds).collect()
+}
+
 /// The largest over the thresholds of the sum divided by c, rounded up.
 pub fn largest_quotient(sizes: &[i64], c: i64, trap: Trap) -> i64 {
     largest_quotient_over(&tried(sizes, c, trap), sizes, c, trap)

@@ -3,7 +3,7 @@
 
 use std::collections::BTreeMap;
 
-use independent::compare;
+use independent::compare::{self, Counts};
 use independent::filter::Answer;
 use independent::generate::Kind;
 use independent::planner::{Independent, Planner};
@@ -33,6 +33,7 @@ fn the_right_program_matches_itself_and_meets_every_outcome() {
         assert!(counts.seen(&format!("narrowing gives {number:02}")) > 0, "narrowing {number}");
     }
     every_imbalance_is_met(&counts.by_kind["Placed"]);
+    every_way_of_rule_11_is_met(&counts);
 }
 
 /// The lists made to be measured meet each refusal and, some dozen times each, both
@@ -48,6 +49,21 @@ fn every_imbalance_is_met(placed: &BTreeMap<String, u64>) {
     for size in ["0", "1 to 999", "1,000 to below 2^32", "2^32 and more"] {
         assert!(seen(&format!("imbalance {size}")) >= 50, "imbalance {size}");
     }
+}
+
+/// Rule 11 ends lists in every way, and in one way each; the crowded lists, made for it,
+/// meet some dozens that it ends at c/2 alone and at a term's size alone.
+fn every_way_of_rule_11_is_met(counts: &Counts) {
+    let by_p = counts.seen(compare::BY_P);
+    let by_a_threshold = counts.seen(compare::BY_A_THRESHOLD);
+    assert!(by_p > 0 && by_a_threshold > 0, "{by_p} by p, {by_a_threshold} by a threshold");
+    assert_eq!(by_p + by_a_threshold, counts.seen("NOPLAN 11"));
+    for way in [compare::ONLY_AT_HALF, compare::ONLY_AT_A_TERM] {
+        let seen = counts.by_kind["Crowded"].get(way).copied().unwrap_or(0);
+        assert!(seen >= 50, "{way}: {seen}");
+    }
+    let only = counts.seen(compare::ONLY_AT_HALF) + counts.seen(compare::ONLY_AT_A_TERM);
+    assert!(only < by_a_threshold, "{only} of {by_a_threshold}");
 }
 
 #[test]
