@@ -1,5 +1,5 @@
-//! A second program for document 01 and request A1 of document 02, written from
-//! their text alone in the most literal form, so that a proved library can be
+//! A second program for document 01 and requests A1 and A2 of document 02, written
+//! from their text alone in the most literal form, so that a proved library can be
 //! compared with it.
 
 // `length % 16 == 0` is nearer to document 01's words, and older compilers know it.

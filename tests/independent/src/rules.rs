@@ -1,5 +1,6 @@
-//! The eleven rules of a round (01, "One round"), each in its most literal form:
-//! whatever a rule speaks of is read from the year at the step that speaks of it.
+//! The eleven rules of a round (01, "One round"; what rule 11 tries, 02, A2), each in
+//! its most literal form: whatever a rule speaks of is read from the year at the step
+//! that speaks of it.
 
 use crate::traps::Trap;
 use crate::year::*;

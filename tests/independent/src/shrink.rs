@@ -68,6 +68,7 @@ fn candidates(year: &Year) -> Vec<Year> {
         });
         found.push(next);
     }
+    found.extend(some_lighter(year));
     for j in 0..year.terms.len() {
         for part in 0..6 {
             for less in [64, 8, 3, 2, 1] {
@@ -92,6 +93,24 @@ fn candidates(year: &Year) -> Vec<Year> {
         }
     }
     found
+}
+
+/// All high credits one less together, and with them the weights of some courses: of
+/// any, where the courses are few.
+fn some_lighter(year: &Year) -> Vec<Year> {
+    let courses = year.courses.len();
+    if courses > 6 {
+        return vec![];
+    }
+    let lighter = |chosen: u32| {
+        let mut next = year.clone();
+        next.terms.iter_mut().for_each(|term| term.high_credits -= 1);
+        for i in (0..courses).filter(|i| chosen >> i & 1 == 1) {
+            next.courses[i].weight -= 1;
+        }
+        next
+    };
+    (0..1 << courses).map(lighter).collect()
 }
 
 /// The year without term j; later terms move down, lists follow. A course left

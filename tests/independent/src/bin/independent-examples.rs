@@ -4,13 +4,13 @@
 
 use independent::compare::hex;
 use independent::filter::{filter, filter_by, run_rule, Answer, IN_ORDER};
-use independent::generate::{small, spoil, Random};
+use independent::generate::{crowded, small, spoil, Random};
 use independent::listing::{of_answer, terms_with_commas};
 use independent::plans;
 use independent::records::bytes;
 use independent::rules;
 use independent::shrink::{measure, shrink};
-use independent::traps::Trap;
+use independent::traps::{Trap, TRAPS_OF_A2};
 use independent::year::*;
 
 /// What an example is for, and whether a year shows it.
@@ -121,6 +121,14 @@ fn all_wanted() -> Vec<Wanted> {
         ),
         ("Trap 4: rule 7 stopping at the first skipped course", Trap::StopAtSkip, Differs::Word),
         ("Trap 5: the quotient of rule 11 rounded down", Trap::RoundDown, Differs::Word),
+        ("Trap 6: c/2 not tried in rule 11", Trap::HalfLeftOut, Differs::Word),
+        ("Trap 7: the terms' sizes not tried in rule 11", Trap::TermSizesLeftOut, Differs::Word),
+        (
+            "Trap 8: a size equal to t counted 0 in rule 11",
+            Trap::OwnSizeCountsNothing,
+            Differs::Word,
+        ),
+        ("Trap 9: sizes above c/2 tried in rule 11", Trap::SizesAboveHalf, Differs::Word),
     ] {
         let shows = move |year: &Year| differs(filter(year, Trap::None), filter(year, trap), how);
         all.push(Wanted { title: title.into(), others: vec![], trap, shows: Box::new(shows) });
@@ -257,7 +265,7 @@ fn p_exceeds_at_rule_11(year: &Year) -> bool {
         Some(now) => now,
         None => return false,
     };
-    (0..now.terms.len()).any(|j| rules::small_p(&now, j) > now.terms[j].high_credits)
+    rules::p_exceeds_high_credits(&now)
 }
 
 /// Without rule 4, rule 6 of round 1 goes through on a year with a spare below 0,
@@ -303,12 +311,14 @@ fn smallest(wanted: &Wanted, tries: u64, seed: u64) -> Option<Year> {
     let mut random = Random::new(seed);
     let mut best: Option<Year> = None;
     let mut found_so_far = 0;
+    let of_a2 = TRAPS_OF_A2.contains(&wanted.trap);
     for attempt in 0..tries {
         if found_so_far == ENOUGH {
             break;
         }
         let year = match &best {
             Some(best) if attempt % 3 == 0 => near(&mut random, best),
+            _ if attempt % 4 == 0 && of_a2 => small_crowded(&mut random),
             _ if attempt % 4 == 0 => small(&mut random),
             _ => tiny(&mut random),
         };
@@ -347,6 +357,17 @@ fn near(random: &mut Random, year: &Year) -> Year {
         spoil(random, &mut next);
     }
     next
+}
+
+/// A crowded year of few terms and small numbers. The traps of A2 seldom show on other
+/// years of this size.
+fn small_crowded(random: &mut Random) -> Year {
+    loop {
+        let year = crowded(random);
+        if year.terms.len() <= 4 && rules::largest_high_credits(&year) <= 21 {
+            return year;
+        }
+    }
 }
 
 /// A year of few and small numbers.
