@@ -15,5 +15,6 @@ pub mod plans;
 pub mod records;
 pub mod rules;
 pub mod shrink;
+pub mod trace;
 pub mod traps;
 pub mod year;

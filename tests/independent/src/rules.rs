@@ -62,12 +62,12 @@ pub fn all_courses(year: &Year) -> i64 {
 }
 
 /// The sum over all terms but j.
-fn sum_of_others(year: &Year, j: usize, of: impl Fn(&Term) -> i64) -> i64 {
+pub fn sum_of_others(year: &Year, j: usize, of: impl Fn(&Term) -> i64) -> i64 {
     (0..year.terms.len()).filter(|&k| k != j).map(|k| of(&year.terms[k])).sum()
 }
 
 /// The terms other than j that course i lists.
-fn other_terms(year: &Year, i: usize, j: usize) -> Vec<usize> {
+pub fn other_terms(year: &Year, i: usize, j: usize) -> Vec<usize> {
     (0..year.terms.len()).filter(|&k| k != j && year.courses[i].lists(k)).collect()
 }
 
@@ -209,14 +209,14 @@ fn charge(year: &Year, i: usize, j: usize, spares: &mut Spares, trap: Trap) {
 }
 
 /// Open courses of j from heaviest to lightest, ties by lower number.
-fn from_heaviest(year: &Year, j: usize) -> Vec<usize> {
+pub fn from_heaviest(year: &Year, j: usize) -> Vec<usize> {
     let mut courses = open(year, j);
     courses.sort_by_key(|&i| (-year.courses[i].weight, i));
     courses
 }
 
 /// Open courses of j from lightest to heaviest, ties again by lower number.
-fn from_lightest(year: &Year, j: usize) -> Vec<usize> {
+pub fn from_lightest(year: &Year, j: usize) -> Vec<usize> {
     let mut courses = open(year, j);
     courses.sort_by_key(|&i| (year.courses[i].weight, i));
     courses
