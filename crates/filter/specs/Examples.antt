@@ -6,6 +6,7 @@ use mathlib.Core.List.{[], _∷_}
 use mathlib.Core.Path.{_≡_, refl}
 use Rattle.year.specs.Year.{termOf, courseOf, withTerm}
 use Rattle.year.specs.Examples.{yearOf, yearE}
+use Rattle.rules.specs.Examples.{atASize, atATermsSize, atHalf, aboveHalf, atItsOwnSize}
 use Rattle.year.specs.declared.Year.{Year}
 use Rattle.filter.specs.Filter.{filtered, filterOf}
 use Rattle.filter.specs.declared.Answer.the-variants.{Settled, Open, NoPlan}
@@ -125,6 +126,26 @@ rule-11-quotient :
 unfolding computing
 rule-11-quotient = refl
 
+-- rule 11 finds no plan where a size exceeds, where only a term's size does, and where only c/2 does
+rule-11-at-a-size : FindsNone atASize 11 1
+unfolding computing
+rule-11-at-a-size = refl
+
+rule-11-at-a-terms-size : FindsNone atATermsSize 11 1
+unfolding computing
+rule-11-at-a-terms-size = refl
+
+rule-11-at-half : FindsNone atHalf 11 1
+unfolding computing
+rule-11-at-half = refl
+
+-- and finds none where only a size above c/2 would exceed
+rule-11-above-half :
+    StaysOpen aboveHalf 2
+    (yearOf (termOf 0 0 0 0 ∷ termOf 0 1 0 1 ∷ termOf 1 2 1 2 ∷ []) (courseOf 1 4 ∷ courseOf 1 6 ∷ []))
+unfolding computing
+rule-11-above-half = refl
+
 -- trap 1: rule 6 on a year that rule 4 has not passed
 trap-1 :
     FindsNone
@@ -159,8 +180,7 @@ unfolding computing
 trap-4 = refl
 
 -- trap 5: the quotient of rule 11 rounded down
-trap-5 :
-    FindsNone (yearOf (termOf 0 5 0 2 ∷ termOf 0 5 0 2 ∷ []) (courseOf 2 3 ∷ courseOf 2 3 ∷ courseOf 2 3 ∷ courseOf 4 3 ∷ [])) 11 1
+trap-5 : FindsNone atItsOwnSize 11 1
 unfolding computing
 trap-5 = refl
 

@@ -1,4 +1,5 @@
 -- Every promise is proved: one proof of the record of them all.
+use Rattle.rules.proofs.ThresholdLaws.{at-sizes-is}
 use Rattle.promises.specs.Promises.{Promises}
 use Rattle.promises.proofs.Rounds.{filtering-narrows}
 use Rattle.promises.proofs.Narrowings.{each-narrowing}
@@ -28,4 +29,5 @@ promises M = record {
   filtering-narrows = filtering-narrows;
   one-placing = one-placing;
   spare-room = spare-room;
+  sizes-are-enough = at-sizes-is;
 }

@@ -16,4 +16,5 @@ pub mod Table
 pub mod Unique
 pub mod Answering
 pub mod SpareRoom
+pub mod SizesTried
 pub mod Promises

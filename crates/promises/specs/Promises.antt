@@ -9,6 +9,7 @@ use Rattle.promises.specs.Narrowings.{EachNarrowing}
 use Rattle.promises.specs.Rounds.{FilteringNarrows}
 use Rattle.promises.specs.OnePlacing.{OnePlacing}
 use Rattle.promises.specs.SpareRoom.{SpareRoom}
+use Rattle.promises.specs.SizesTried.{SizesAreEnough}
 
 pub record Promises (M : Type 1) : Type 2 where
   pub each-answers : EachAnswers M
@@ -25,3 +26,4 @@ pub record Promises (M : Type 1) : Type 2 where
   pub filtering-narrows : FilteringNarrows
   pub one-placing : OnePlacing
   pub spare-room : SpareRoom
+  pub sizes-are-enough : SizesAreEnough

@@ -13,6 +13,7 @@ pub mod BoundsKept
 pub mod ListsKept
 pub mod SparesKept
 pub mod PackingKept
+pub mod ThresholdLaws
 pub mod Passes
 pub mod Named
 pub mod Rest

@@ -15,6 +15,7 @@ use Rattle.rules.specs.Bounds.{rule1, rule2, rule4, rule5}
 use Rattle.rules.specs.Lists.{verdict3, rule3Course, rule3, verdict10, rule10Course, rule10}
 use Rattle.rules.specs.Spares.{spares, blocked, charged, walkOf, down, up, rule6, rule7, rule8, rule9}
 use Rattle.rules.specs.Packing.{shares, rule11}
+use Rattle.rules.specs.Thresholds.{rule11AtSizes}
 use Rattle.rules.specs.Round.{round}
 
 unfoldable words : Unit {0}
@@ -34,5 +35,5 @@ unfolding spares blocked charged walkOf down up rule6 rule7 rule8 rule9
 byWalks = tt
 
 unfoldable pub computing : Unit {0}
-unfolding words sums rule1 rule2 rule4 rule5 onLists byWalks shares rule11 round
+unfolding words sums rule1 rule2 rule4 rule5 onLists byWalks shares rule11 rule11AtSizes round
 computing = tt

@@ -1,10 +1,12 @@
 -- Rules by themselves, by computation: rows 6 to 9 of the paper's table, each rule at a small term, and the paper's traps at the
 -- rule they are about.
 use Prim.Native.Nat.{ℕ, _+_, _/_}
+use mathlib.Core.Bool.{Bool, true, false}
 use mathlib.Core.List.{List, [], _∷_}
 use mathlib.Core.Path.{_≡_, refl}
 use Rattle.year.specs.Year.{termOf, courseOf, list}
 use Rattle.theory.specs.Largest.{largest}
+use Rattle.theory.specs.Tests.{any}
 use Rattle.year.specs.Examples.{yearOf, atLeast}
 use Rattle.year.specs.declared.Term.{Term}
 use Rattle.year.specs.declared.Course.{Course}
@@ -12,7 +14,8 @@ use Rattle.year.specs.declared.Year.{Year}
 use Rattle.rules.specs.Bounds.{rule1, rule2, rule4, rule5}
 use Rattle.rules.specs.Lists.{rule3, rule10}
 use Rattle.rules.specs.Spares.{rule6, rule7, rule8, rule9}
-use Rattle.rules.specs.Packing.{room, shares, roundedUp}
+use Rattle.rules.specs.Packing.{room, shares, roundedUp, bursts}
+use Rattle.rules.specs.Thresholds.{courseTried, termTried, rule11AtSizes}
 use Rattle.rules.specs.Round.{round}
 use Rattle.rules.specs.Computing.{computing}
 
@@ -58,6 +61,58 @@ row8 = refl
 row9 : largestQuotient (three 5) ≡ 2
 unfolding computing
 row9 = refl
+
+-- ---- rule 11 at the sizes that occur (request A2). Which of them exceed: a course's, a term's, c/2
+
+abbrev pub exceeding : Year → List Bool
+exceeding y = any (y .courses) (courseTried y (room y)) ∷ any (y .terms) (termTried y (room y)) ∷ bursts y (room y) (room y / 2) ∷ []
+
+-- sizes 5, 3, 2, 2 and 0, 0, c = 6: at 2 they count for 13, and terms times c are 12
+abbrev pub atASize : Year
+atASize = yearOf (termOf 6 6 2 2 ∷ termOf 6 6 2 2 ∷ []) (courseOf 5 3 ∷ courseOf 3 3 ∷ courseOf 2 3 ∷ courseOf 2 3 ∷ [])
+
+at-a-size : exceeding atASize ≡ true ∷ false ∷ false ∷ []
+unfolding computing
+at-a-size = refl
+
+-- sizes 6, 5, 5, 1 and 1, 0, c = 9: at 0 and 1 they count for 18, which is terms times c; at 4, which is no size, for 19
+abbrev pub atHalf : Year
+atHalf = yearOf (termOf 8 8 2 2 ∷ termOf 9 9 2 2 ∷ []) (courseOf 6 3 ∷ courseOf 5 3 ∷ courseOf 5 3 ∷ courseOf 1 3 ∷ [])
+
+at-half : exceeding atHalf ≡ false ∷ false ∷ true ∷ []
+unfolding computing
+at-half = refl
+
+-- sizes 5, 5, 9, 1, 9 and 4, 0, 0, c = 12: at 4, a term's size, they count for 38, and terms times c are 36
+abbrev pub atATermsSize : Year
+atATermsSize =
+    yearOf (termOf 0 8 0 2 ∷ termOf 0 12 0 2 ∷ termOf 0 12 0 2 ∷ [])
+    (courseOf 5 3 ∷ courseOf 5 3 ∷ courseOf 9 6 ∷ courseOf 1 5 ∷ courseOf 9 6 ∷ [])
+
+at-a-terms-size : exceeding atATermsSize ≡ false ∷ true ∷ false ∷ []
+unfolding computing
+at-a-terms-size = refl
+
+-- sizes 2, 2, 2, 4 and 0, 0, c = 5: at 2 they count for 11 and terms times c are 10; were a size at t to count 0, for 5
+abbrev pub atItsOwnSize : Year
+atItsOwnSize = yearOf (termOf 0 5 0 2 ∷ termOf 0 5 0 2 ∷ []) (courseOf 2 3 ∷ courseOf 2 3 ∷ courseOf 2 3 ∷ courseOf 4 3 ∷ [])
+
+at-its-own-size : exceeding atItsOwnSize ≡ true ∷ false ∷ true ∷ []
+unfolding computing
+at-its-own-size = refl
+
+-- sizes 1 and 2, 1, 1, c = 2: a size above c/2 is not tried; at 2 they would count for 8, and terms times c are 6
+abbrev pub aboveHalf : Year
+aboveHalf = yearOf (termOf 0 0 0 0 ∷ termOf 0 1 0 1 ∷ termOf 0 2 0 2 ∷ []) (courseOf 1 4 ∷ courseOf 1 6 ∷ [])
+
+above-half : exceeding aboveHalf ≡ false ∷ false ∷ false ∷ []
+unfolding computing
+above-half = refl
+
+-- what the rule answers by them
+at-sizes : rule11AtSizes atHalf .rule ∷ rule11AtSizes atATermsSize .rule ∷ rule11AtSizes aboveHalf .rule ∷ [] ≡ 11 ∷ 11 ∷ 0 ∷ []
+unfolding computing
+at-sizes = refl
 
 -- ---- each rule at term 0 of a small year: what a version that is off by a little would not give
 

@@ -4,6 +4,7 @@ pub mod Bounds
 pub mod Lists
 pub mod Spares
 pub mod Packing
+pub mod Thresholds
 pub mod Round
 pub mod Narrower
 pub mod Computing
