@@ -16,17 +16,15 @@ pub struct Kind {
 }
 
 /// The kinds of years that the bars hold for.
-pub const KINDS: [Kind; 6] = [
+pub const KINDS: [Kind; 7] = [
     Kind { name: "small", words: "small years, 2 to 4 terms, up to 6 courses", count: 200 },
     Kind { name: "hidden", words: "a hidden plan with little slack, up to 16 by 64", count: 120 },
     Kind { name: "full", words: "the same, 16 terms by 64 courses", count: 80 },
     Kind { name: "settled", words: "settled, up to 16 by 64", count: 120 },
     Kind { name: "noplan", words: "no plan", count: 120 },
     Kind { name: "real", words: "the real curricula in data/", count: 12 },
+    Kind { name: "large", words: "bounds up to 64,000, weights up to 1,000", count: 60 },
 ];
-
-/// Reported apart: here rule 11 tries up to 32,001 values of t.
-pub const LARGE: Kind = Kind { name: "large", words: "bounds up to 64,000, weights up to 1,000", count: 60 };
 
 /// The sizes of the growth tables, and how many years are made of each.
 pub const COURSES: [usize; 6] = [8, 16, 24, 32, 48, 64];
@@ -44,10 +42,13 @@ pub fn sized(terms: usize, courses: usize) -> String {
 pub fn write_all(folder: &Path) -> io::Result<()> {
     fs::create_dir_all(folder)?;
     for kind in KINDS {
-        let lists = if kind.name == "real" { real(Path::new("data"))? } else { made(kind.name, kind.count) };
+        let lists = match kind.name {
+            "real" => real(Path::new("data"))?,
+            "large" => large(kind.count),
+            name => made(name, kind.count),
+        };
         write(&folder.join(kind.name), &lists)?;
     }
-    write(&folder.join(LARGE.name), &large(LARGE.count))?;
     for courses in COURSES {
         write(&folder.join(sized(16, courses)), &of_size(16, courses))?;
     }

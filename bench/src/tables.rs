@@ -29,20 +29,14 @@ impl Times {
     }
 }
 
-const HEAD: &str =
-    "| years | library, µs | independent, µs | ratio (worst) | Gecode, µs | ratio (worst) | instructions |\n\
-    |---|---|---|---|---|---|---|";
-
 /// Prints all tables and draws the picture.
 pub fn make(folder: &Path, docs: &Path) -> io::Result<()> {
-    println!("{HEAD}");
+    println!("| years | library, µs | independent, µs | ratio (worst) | Gecode, µs | ratio (worst) | instructions |");
+    println!("|---|---|---|---|---|---|---|");
     let mut kinds = vec![];
     for kind in &corpus::KINDS {
         kinds.push((kind.name, of_kind(folder, kind)?));
     }
-    println!("\nApart, since rule 11's plain form costs most on large bounds, and past the one bound that often spares it:\n");
-    println!("{HEAD}");
-    kinds.push((corpus::LARGE.name, of_kind(folder, &corpus::LARGE)?));
     past_the_bound(folder, &kinds)?;
     imbalances(folder)?;
 
