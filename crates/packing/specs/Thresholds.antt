@@ -18,6 +18,15 @@ pub record Rising (x o : List ℕ) : Type 0 where
   pub each : (f : ℕ → ℕ) → sum (length x) (λ r. f (getD o r 0)) ≡ sum (length x) f
   pub rises : (r q : ℕ) → r ≤ q → q < length x → (getD x (getD o q 0) 0 ≡ 0) ⊎ (getD x (getD o r 0) 0 ≤ getD x (getD o q 0) 0)
 
+-- sizes a of the courses, none above the heaviest, in a rising order o, and sizes b of the terms, in a room of c
+pub record Fitting (a o b : List ℕ) (c heaviest : ℕ) : Type 0 where
+  pub few-courses : length a ≤ 64
+  pub few-terms : length b ≤ 64
+  pub room : c ≤ 64000
+  pub light : heaviest ≤ 1000
+  pub top : (i : ℕ) → i < length a → getD a i 0 ≤ heaviest
+  pub rising : Rising a o
+
 -- the weight of the last of n courses in an order; 0 of none
 abbrev pub lastWeight : List ℕ → List ℕ → ℕ → ℕ
 lastWeight w o n = choose (eqb n 0) 0 (getD w (getD o (n - 1) 0) 0)

@@ -1,6 +1,5 @@
 -- A state that found no plan passes; whether all can be packed decides the rest.
 use mathlib.Core.Path.{sym, _∙_}
-use borrow.Author.Needs.{needs}
 use Rattle.packing.proofs.StateLaws.{no-plan-stays, finds-no-plan, finds-nothing}
 use Rattle.packing.proofs.rule_11.Statement.{statement}
 use Rattle.packing.proofs.rule_11.Tie as tie

@@ -135,10 +135,15 @@ overfull-requires c κs =
     let q = h .before .before in
     let p = q .before in
     let r = p .before .before .before .before .before in
-    let b = r .before .before .before .before .before .before .before in (
-      (omega (arith, courses-lent p, b .pre .1 .0), omega (arith, terms-lent q, b .pre .1 .0), small r, top h .1),
-      (top h .0, rising p),
-    )
+    let b = r .before .before .before .before .before .before .before in
+    record {
+      few-courses = omega (arith, courses-lent p, b .pre .1 .0);
+      few-terms = omega (arith, terms-lent q, b .pre .1 .0);
+      room = small r;
+      light = top h .1;
+      top = top h .0;
+      rising = rising p;
+    }
 
 returns-3 : tie.Need-returns-3
 returns-3 c = let q = c .before .before .before .before .before in

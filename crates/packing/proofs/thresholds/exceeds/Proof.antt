@@ -1,6 +1,5 @@
 -- The sum of the terms' sizes at t is added; the test is the definition's.
 use mathlib.Core.Path.{ap}
-use native.Mathlib.Omega.{arith}
 use borrow.Author.Needs.{needs}
 use lib.Dec.{ltb}
 use Prim.Native.Nat.{_+_}
