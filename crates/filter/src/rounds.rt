@@ -66,9 +66,10 @@ fn second_half(s: State, weight: &[u32], o: Orders) -> State
     requires { ⌜ o ≡ ordersOf (yearIn (now weight) s) ⌝ }
     ensures { λ r. ⌜ r ≡ held (secondHalf (stepIn (now (weight .entry)) s)) ⌝ }
 {
-    let r9 = walks::rules_6_to_9(s, weight, o);
-    let r10 = lists::rule_10(r9, weight);
+    let falling = o.down;
     let rising = o.up;
+    let r9 = walks::rules_6_to_9(s, weight, &falling, &rising);
+    let r10 = lists::rule_10(r9, weight);
     packing::rule_11(r10, weight, &rising)
 }
 

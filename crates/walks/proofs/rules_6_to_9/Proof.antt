@@ -1,11 +1,13 @@
 -- Each rule starts from the bounds that the rule before it left, and the courses stay. The orders are the year's own.
 use Prim.Native.Nat.{ℕ}
-use mathlib.Core.Path.{_∙_}
+use mathlib.Core.Path.{_≡_, _∙_}
 use borrow.Author.Needs.{needs}
 use Rattle.rules.specs.Step.{Step}
 use Rattle.rules.specs.Round.{inRow, passesOf}
-use Rattle.frame.specs.State.{stepIn}
+use Rattle.frame.specs.State.{yearIn, stepIn}
 use Rattle.frame.specs.declared.Bounds.{Bounds}
+use Rattle.orders.specs.Orders.{ordersOf}
+use Rattle.orders.specs.declared.Orders.{Orders}
 use Rattle.frame.proofs.StateLaws.{sums-held}
 use Rattle.frame.proofs.BoundsAt.{BoundsAt, at-start, at-end, sums-fit}
 use Rattle.walks.specs.declared.WalkRule.the-variants.{LeastCount, MostCount, LeastLoad, MostLoad}
@@ -15,14 +17,21 @@ use Rattle.walks.proofs.rules_6_to_9.Tie as tie
 
 -- ---- the state at the start
 
-ready : (b : tie.Start) → Ready (b .args .weight .now) (b .args .s) (b .args .o)
-ready b = record { long = b .pre .0; sound = b .pre .1 .0; is-held = b .pre .1 .1 .0; orders-are = b .pre .1 .1 .1 }
+-- the orders that are lent
+abbrev lent : tie.Start → Orders
+lent b = record { down = b .args .falling .now; up = b .args .rising .now }
+
+ready : (b : tie.Start) → Ready (b .args .weight .now) (b .args .s) (lent b)
+ready b = record { long = b .pre .0; sound = b .pre .1 .0; is-held = b .pre .1 .1 .0; orders-are = are }
+  where
+    are : lent b ≡ ordersOf (yearIn (b .args .weight .now) (b .args .s))
+    are = λ i. record { down = b .pre .1 .1 .1 .0 i; up = b .pre .1 .1 .1 .1 i }
 
 abbrev from : tie.Start → Step
 from b = stepIn (b .args .weight .now) (b .args .s)
 
 abbrev start : tie.After-bounds-of → tie.Start
-start c = c .before .before .before .before .before .before .before .before .before .before
+start c = c .before .before .before .before .before .before .before .before
 
 -- ---- x are the bounds that rules 6 to k leave
 
@@ -49,15 +58,9 @@ after-9 c = row (ready (start (c .before .before .before .before))) MostLoad (af
 slice-aggregate-list : tie.Need-slice-aggregate-list
 slice-aggregate-list c = search needs
 
-slice-aggregate-down : tie.Need-slice-aggregate-down
-slice-aggregate-down c = search needs
-
-slice-aggregate-up : tie.Need-slice-aggregate-up
-slice-aggregate-up c = search needs
-
 tallies-of-requires : tie.Need-tallies-of-requires
 tallies-of-requires c κs =
-    let b = c .before .before .before .before .before .before .before .before in
+    let b = c .before .before .before .before .before .before in
     sums-fit (from b .year) _ (b .pre .1 .0) (sums-held _ _ (b .pre .1 .1 .0))
 
 bounds-of-requires : tie.Need-bounds-of-requires
@@ -86,8 +89,6 @@ rules-6-to-9-spec =
     tie.close
     (tie.spec
     slice-aggregate-list
-    slice-aggregate-down
-    slice-aggregate-up
     tallies-of-requires
     bounds-of-requires
     walk-rule-requires

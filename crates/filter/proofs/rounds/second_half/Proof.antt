@@ -8,10 +8,10 @@ use Rattle.frame.specs.State.{yearIn, stepIn}
 use Rattle.rules.specs.Step.{Step}
 use Rattle.rules.specs.Round.{inRow, passesOf}
 use Rattle.rules.proofs.Narrows.{narrower-self}
-use Rattle.rules.specs.Spares.{up}
+use Rattle.rules.specs.Spares.{down, up}
 use Rattle.orders.specs.Orders.{ordersOf}
 use Rattle.orders.specs.declared.Orders.{Orders}
-use Rattle.orders.proofs.OrderLaws.{up-fits, orders-weights}
+use Rattle.orders.proofs.OrderLaws.{down-fits, up-fits, orders-weights}
 use Rattle.filter.specs.Halves.{secondHalf}
 use Rattle.filter.proofs.StateAt.{Own, own-in, StateAt, state-sound, state-self, state-row, state-year}
 use Rattle.filter.proofs.rounds.second_half.Statement.{statement}
@@ -37,51 +37,74 @@ at5 b = record { is = b .pre .1 .1 .0; narrower = narrower-self (y b) (b .pre .1
 abbrev step9 : tie.Start → Step
 step9 b = inRow (passesOf 6 9) (step5 b)
 
-at9 : (c : tie.After-rules-6-to-9) → let b = c .before .before in StateAt (y b) (c .rules-6-to-9 .result) (step9 b)
+abbrev start : tie.After-rules-6-to-9 → tie.Start
+start c = c .before .before .before .before .before .before
+
+at9 : (c : tie.After-rules-6-to-9) → let b = start c in StateAt (y b) (c .rules-6-to-9 .result) (step9 b)
 at9 c =
-    let b = c .before .before in
+    let b = start c in
     state-row (w b) (y b) (own b) (b .args .s) (step5 b) (at5 b) 6 9 (c .rules-6-to-9 .result) (c .rules-6-to-9 .ensures)
 
 abbrev step10 : tie.Start → Step
 step10 b = inRow (passesOf 6 10) (step5 b)
 
-at10 : (c : tie.After-rule-10) → let b = c .before .before .before in StateAt (y b) (c .rule-10 .result) (step10 b)
+at10 : (c : tie.After-rule-10) → let b = start (c .before) in StateAt (y b) (c .rule-10 .result) (step10 b)
 at10 c =
     let a = c .before in
-    let b = a .before .before in
+    let b = start a in
     state-row (w b) (y b) (own b) (a .rules-6-to-9 .result) (step9 b) (at9 a) 10 10 (c .rule-10 .result) (c .rule-10 .ensures)
 
--- ---- the needs
+-- ---- the orders that are lent
 
-rules-6-to-9-requires : tie.Need-rules-6-to-9-requires
-rules-6-to-9-requires c κs = c .before .pre
+falling-is : (b : tie.Start) → b .args .o .down ≡ down (y b)
+falling-is b = ap (λ (o : Orders). o .down) (b .pre .1 .1 .1)
 
-rule-10-requires : tie.Need-rule-10-requires
-rule-10-requires c κs =
-    let b = c .before .before in
-    let x = step9 b in
-    let r = c .rules-6-to-9 .result in
-    (b .pre .0, (state-sound (w b) (y b) (own b) r x (at9 c), state-self (w b) (y b) (own b) r x (at9 c)))
+rising-is : (b : tie.Start) → b .args .o .up ≡ up (y b)
+rising-is b = ap (λ (o : Orders). o .up) (b .pre .1 .1 .1)
+
+falling-long : (b : tie.Start) → 64 ≡ length (b .args .o .down)
+falling-long b = sym (ap length (falling-is b) ∙ down-fits (y b) (b .pre .1 .0) .long)
+
+rising-long : (b : tie.Start) → 64 ≡ length (b .args .o .up)
+rising-long b = sym (ap length (rising-is b) ∙ up-fits (y b) (b .pre .1 .0) .long)
 
 -- no rule alters a weight, so the courses stand in the order that they stood in
-still-rising : (c : tie.After-rule-10) → let b = c .before .before .before in b .args .o .up ≡ up (yearIn (w b) (c .rule-10 .result))
+still-rising : (c : tie.After-rule-10) → let b = start (c .before) in b .args .o .up ≡ up (yearIn (w b) (c .rule-10 .result))
 still-rising c =
-    let b = c .before .before .before in
+    let b = start (c .before) in
     let n = at10 c .narrower in
     ap (λ (o : Orders). o .up)
     (b .pre .1 .1 .1
     ∙ sym (orders-weights (y b) (step10 b .year) (n .courses-same) (n .weight-same))
     ∙ ap ordersOf (sym (state-year (w b) (y b) (own b) (c .rule-10 .result) (step10 b) (at10 c))))
 
-slice-aggregate-rule-11 : tie.Need-slice-aggregate-rule-11
-slice-aggregate-rule-11 c =
+-- ---- the needs
+
+slice-aggregate-rules-6-to-9 : tie.Need-slice-aggregate-rules-6-to-9
+slice-aggregate-rules-6-to-9 c = falling-long (c .before .before .before .before)
+
+slice-aggregate-rules-6-to-9-2 : tie.Need-slice-aggregate-rules-6-to-9-2
+slice-aggregate-rules-6-to-9-2 c = rising-long (c .before .before .before .before .before)
+
+rules-6-to-9-requires : tie.Need-rules-6-to-9-requires
+rules-6-to-9-requires c κs =
     let b = c .before .before .before .before .before in
-    sym (ap (λ (o : Orders). length (o .up)) (b .pre .1 .1 .1) ∙ up-fits (y b) (b .pre .1 .0) .long)
+    (b .pre .0, (b .pre .1 .0, (b .pre .1 .1 .0, (falling-is b, rising-is b))))
+
+rule-10-requires : tie.Need-rule-10-requires
+rule-10-requires c κs =
+    let b = start c in
+    let x = step9 b in
+    let r = c .rules-6-to-9 .result in
+    (b .pre .0, (state-sound (w b) (y b) (own b) r x (at9 c), state-self (w b) (y b) (own b) r x (at9 c)))
+
+slice-aggregate-rule-11 : tie.Need-slice-aggregate-rule-11
+slice-aggregate-rule-11 c = rising-long (start (c .before .before))
 
 rule-11-requires : tie.Need-rule-11-requires
 rule-11-requires c κs =
-    let d = c .before .before in
-    let b = d .before .before .before in
+    let d = c .before in
+    let b = start (d .before) in
     let x = step10 b in
     let r = d .rule-10 .result in
     (b .pre .0, (state-sound (w b) (y b) (own b) r x (at10 d), (state-self (w b) (y b) (own b) r x (at10 d), still-rising d)))
@@ -89,9 +112,18 @@ rule-11-requires c κs =
 returns : tie.Need-returns
 unfolding secondHalf
 returns c =
-    let a = c .before .before .before in
-    let b = a .before .before .before in
+    let a = c .before .before in
+    let b = start (a .before) in
     state-row (w b) (y b) (own b) (a .rule-10 .result) (step10 b) (at10 a) 11 11 (c .rule-11 .result) (c .rule-11 .ensures) .is
 
 pub second-half-spec : {M : Type 1} → statement M
-second-half-spec = tie.close (tie.spec rules-6-to-9-requires rule-10-requires slice-aggregate-rule-11 rule-11-requires returns)
+second-half-spec =
+    tie.close
+    (tie.spec
+    slice-aggregate-rules-6-to-9
+    slice-aggregate-rules-6-to-9-2
+    rules-6-to-9-requires
+    rule-10-requires
+    slice-aggregate-rule-11
+    rule-11-requires
+    returns)
