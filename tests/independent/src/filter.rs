@@ -38,8 +38,8 @@ pub fn filter_by(year: &Year, rules: &[u8], trap: Trap) -> (Answer, Year) {
 /// the rule found no plan, that was on the last of them.
 pub fn years_before(year: &Year, rule: u8) -> Vec<Year> {
     let mut years = vec![];
-    let mut watch = |next: u8, now: &Year| {
-        if next == rule {
+    let mut watch = |at: Place, now: &Year| {
+        if at.rule == rule && at.term == 0 {
             years.push(now.clone());
         }
     };
@@ -47,25 +47,34 @@ pub fn years_before(year: &Year, rule: u8) -> Vec<Year> {
     years
 }
 
-/// Filters as above; each rule is shown with the year before it runs.
-fn filter_watched(
+/// A step's place in a filtering: the round, from 1, the rule, and the term, which is 0
+/// for rule 11.
+#[derive(Clone, Copy, Debug, PartialEq, Eq)]
+pub struct Place {
+    pub round: u32,
+    pub rule: u8,
+    pub term: usize,
+}
+
+/// Filters as above; each step is shown with the year before it.
+pub fn filter_watched(
     year: &Year,
     rules: &[u8],
     trap: Trap,
-    watch: &mut dyn FnMut(u8, &Year),
+    watch: &mut dyn FnMut(Place, &Year),
 ) -> (Answer, Year) {
     if !year.is_sound() {
         return (Answer::Refused { number: 8, place: 0 }, year.clone());
     }
     let mut now = year.clone();
-    let mut rounds = 0;
+    let mut round = 0;
     loop {
         let before = now.clone();
-        rounds += 1;
+        round += 1;
         for &rule in rules {
-            watch(rule, &now);
-            if run_rule(&mut now, rule, trap).is_err() {
-                return (Answer::NoPlan { rule, round: rounds }, year.clone());
+            let mut watch_term = |term: usize, now: &Year| watch(Place { round, rule, term }, now);
+            if run_rule_watched(&mut now, rule, trap, &mut watch_term).is_err() {
+                return (Answer::NoPlan { rule, round }, year.clone());
             }
         }
         if now == before {
@@ -73,31 +82,46 @@ fn filter_watched(
         }
     }
     if now.is_settled() {
-        (Answer::Settled { rounds }, now)
+        (Answer::Settled { rounds: round }, now)
     } else {
-        (Answer::Open { rounds }, now)
+        (Answer::Open { rounds: round }, now)
     }
 }
 
 /// Rules 1 to 10 each over terms 0, 1, 2 and so on, rule 11 once for the year.
 pub fn run_rule(year: &mut Year, rule: u8, trap: Trap) -> Step {
-    if rule == 11 {
-        return rule_11(year, trap);
-    }
-    for j in 0..year.terms.len() {
-        match rule {
-            1 => rule_1(year, j)?,
-            2 => rule_2(year, j)?,
-            3 => rule_3(year, j, trap)?,
-            4 => rule_4(year, j)?,
-            5 => rule_5(year, j)?,
-            6 => rule_6(year, j, trap)?,
-            7 => rule_7(year, j, trap)?,
-            8 => rule_8(year, j, trap)?,
-            9 => rule_9(year, j, trap)?,
-            10 => rule_10(year, j)?,
-            _ => panic!("the rules are 1 to 11"),
-        }
+    run_rule_watched(year, rule, trap, &mut |_, _| ())
+}
+
+/// Runs a rule as above; each term is shown with the year before the step at it.
+pub fn run_rule_watched(
+    year: &mut Year,
+    rule: u8,
+    trap: Trap,
+    watch: &mut dyn FnMut(usize, &Year),
+) -> Step {
+    let steps = if rule == 11 { 1 } else { year.terms.len() };
+    for j in 0..steps {
+        watch(j, year);
+        run_step(year, rule, j, trap)?;
     }
     Ok(())
+}
+
+/// One step: a rule at term j; rule 11 is one step for the year.
+pub fn run_step(year: &mut Year, rule: u8, j: usize, trap: Trap) -> Step {
+    match rule {
+        1 => rule_1(year, j),
+        2 => rule_2(year, j),
+        3 => rule_3(year, j, trap),
+        4 => rule_4(year, j),
+        5 => rule_5(year, j),
+        6 => rule_6(year, j, trap),
+        7 => rule_7(year, j, trap),
+        8 => rule_8(year, j, trap),
+        9 => rule_9(year, j, trap),
+        10 => rule_10(year, j),
+        11 => rule_11(year, trap),
+        _ => panic!("the rules are 1 to 11"),
+    }
 }

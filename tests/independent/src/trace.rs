@@ -3,7 +3,7 @@
 //! docs/RULES.md is held against them. The rules of rules.rs are what runs; the words
 //! tell the year before a step and what the step altered.
 
-use crate::filter::{filter, Answer, IN_ORDER};
+use crate::filter::{filter_watched, run_rule_watched, run_step, Answer, Place, IN_ORDER};
 use crate::listing::{of_answer, terms_with_commas};
 use crate::rules::*;
 use crate::traps::Trap;
@@ -49,67 +49,34 @@ pub fn trace(year: &Year, kind: Kind) -> String {
 }
 
 fn by_itself(year: &Year, rule: u8) -> Vec<String> {
-    let mut now = year.clone();
     let mut lines = vec![];
-    for j in 0..times(year, rule) {
-        let step = take(&mut now, rule, j);
-        lines.extend(step.lines);
-        if step.did == Did::FindNoPlan {
-            break;
-        }
-    }
+    let mut tell = |j: usize, now: &Year| lines.extend(step_told(now, rule, j).lines);
+    // A no plan is told with the step that finds it.
+    let _ = run_rule_watched(&mut year.clone(), rule, Trap::None, &mut tell);
     lines
 }
 
-/// Rules 1 to 10 run once for each term, rule 11 once for the year.
-fn times(year: &Year, rule: u8) -> usize {
-    if rule == 11 {
-        1
-    } else {
-        year.terms.len()
-    }
-}
-
-// ---- A whole filtering ----
-
+/// The steps that do something, round by round. A filtering that does not end in no plan
+/// ends in a round of which there is nothing to tell.
 fn filtering(year: &Year) -> Vec<String> {
-    let mut now = year.clone();
     let mut lines = vec![];
     let mut rounds = 0;
-    let answer = loop {
-        rounds += 1;
-        lines.push(format!("round {rounds}"));
-        let told = lines.len();
-        if let Some(rule) = one_round(&mut now, &mut lines) {
-            break Answer::NoPlan { rule, round: rounds };
+    let mut tell = |at: Place, now: &Year| {
+        if at.round > rounds {
+            rounds = at.round;
+            lines.push(format!("round {rounds}"));
         }
-        if lines.len() == told {
-            lines.push("nothing alters".to_string());
-            let settled = now.is_settled();
-            break if settled { Answer::Settled { rounds } } else { Answer::Open { rounds } };
+        let step = step_told(now, at.rule, at.term);
+        if step.did != Did::Nothing {
+            lines.extend(step.lines);
         }
     };
-    let (right, filtered) = filter(year, Trap::None);
-    assert_eq!(answer, right, "{year:?}");
-    assert!(now == filtered || matches!(answer, Answer::NoPlan { .. }), "{year:?}");
-    lines.extend(of_answer(answer, Some(&now)).lines().map(str::to_string));
-    lines
-}
-
-/// Tells the steps of a round that do something. The rule that finds no plan, if any.
-fn one_round(now: &mut Year, lines: &mut Vec<String>) -> Option<u8> {
-    for rule in IN_ORDER {
-        for j in 0..times(now, rule) {
-            let step = take(now, rule, j);
-            if step.did != Did::Nothing {
-                lines.extend(step.lines);
-            }
-            if step.did == Did::FindNoPlan {
-                return Some(rule);
-            }
-        }
+    let (answer, filtered) = filter_watched(year, &IN_ORDER, Trap::None, &mut tell);
+    if !matches!(answer, Answer::NoPlan { .. }) {
+        lines.push("nothing alters".to_string());
     }
-    None
+    lines.extend(of_answer(answer, Some(&filtered)).lines().map(str::to_string));
+    lines
 }
 
 // ---- One step: a rule at a term ----
@@ -121,30 +88,30 @@ enum Did {
     FindNoPlan,
 }
 
-struct Taken {
+struct Told {
     lines: Vec<String>,
     did: Did,
 }
 
-/// Runs a rule at a term and tells it: the numbers it reads, what it alters, and how
-/// it ends.
-fn take(year: &mut Year, rule: u8, j: usize) -> Taken {
-    let before = year.clone();
-    let found = run_at(year, rule, j);
-    let mut lines = numbers_read(&before, rule, j);
-    lines.extend(bounds_altered(&before.terms[j], &year.terms[j]));
+/// A rule at a term, run on a copy of the year: the numbers it reads, what it alters, and
+/// how it ends.
+fn step_told(before: &Year, rule: u8, j: usize) -> Told {
+    let mut after = before.clone();
+    let found = run_step(&mut after, rule, j, Trap::None);
+    let mut lines = numbers_read(before, rule, j);
+    lines.extend(bounds_altered(&before.terms[j], &after.terms[j]));
     if rule == 3 {
-        lines.extend(rule_3_told(&before, year, j));
+        lines.extend(rule_3_told(before, &after, j));
     } else {
-        lines.extend(lists_altered(&before, year, j));
+        lines.extend(lists_altered(before, &after, j));
     }
     let did = match found {
         Err(NoPlan) => Did::FindNoPlan,
-        Ok(()) if *year == before => Did::Nothing,
+        Ok(()) if after == *before => Did::Nothing,
         Ok(()) => Did::Alter,
     };
     let place = if rule == 11 { "rule 11".to_string() } else { format!("rule {rule}, term {j}") };
-    Taken { lines: laid_out(&place, lines, did), did }
+    Told { lines: laid_out(&place, lines, did), did }
 }
 
 /// The lines of a step: its name before the first, the others set in, its end.
@@ -157,22 +124,6 @@ fn laid_out(place: &str, mut lines: Vec<String>, did: Did) -> Vec<String> {
     lines[0] = format!("{place}: {}", lines[0]);
     lines[1..].iter_mut().for_each(|line| *line = format!("  {line}"));
     lines
-}
-
-fn run_at(year: &mut Year, rule: u8, j: usize) -> Step {
-    match rule {
-        1 => rule_1(year, j),
-        2 => rule_2(year, j),
-        3 => rule_3(year, j, Trap::None),
-        4 => rule_4(year, j),
-        5 => rule_5(year, j),
-        6 => rule_6(year, j, Trap::None),
-        7 => rule_7(year, j, Trap::None),
-        8 => rule_8(year, j, Trap::None),
-        9 => rule_9(year, j, Trap::None),
-        10 => rule_10(year, j),
-        _ => rule_11(year, Trap::None),
-    }
 }
 
 /// What the rule reads at the term and what it is compared with, course by course in
