@@ -514,7 +514,7 @@ fn ways_of_rule_11(year: &Year) -> Vec<&'static str> {
         Some(met) => met,
         None => return vec![],
     };
-    if rules::p_exceeds_high_credits(&met) {
+    if rules::term_over(&met).is_some() {
         return vec![BY_P];
     }
     let c = rules::largest_high_credits(&met);

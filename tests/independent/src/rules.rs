@@ -2,6 +2,8 @@
 //! its most literal form: whatever a rule speaks of is read from the year at the step
 //! that speaks of it.
 
+use std::collections::VecDeque;
+
 use crate::traps::Trap;
 use crate::year::*;
 
@@ -20,11 +22,8 @@ pub fn fixed(year: &Year, j: usize) -> Vec<usize> {
 
 /// open(j): courses listing j and some other term, in rising number.
 pub fn open(year: &Year, j: usize) -> Vec<usize> {
-    (0..year.courses.len()).filter(|&i| is_open_in(year, i, j)).collect()
-}
-
-fn is_open_in(year: &Year, i: usize, j: usize) -> bool {
-    year.courses[i].lists(j) && year.courses[i].listed() > 1
+    let is_open = |course: &Course| course.lists(j) && course.listed() > 1;
+    (0..year.courses.len()).filter(|&i| is_open(&year.courses[i])).collect()
 }
 
 fn credits_of(year: &Year, courses: &[usize]) -> i64 {
@@ -134,19 +133,21 @@ pub fn rule_2(year: &mut Year, j: usize) -> Step {
 /// from its list; otherwise, if P - w is below low credits, its list becomes j alone.
 pub fn rule_3(year: &mut Year, j: usize, trap: Trap) -> Step {
     let p_before_any_course = small_p(year, j);
-    for i in 0..year.courses.len() {
-        if !is_open_in(year, i, j) {
-            continue;
-        }
-        let w = year.courses[i].weight;
+    for i in open(year, j) {
         let p = if trap == Trap::StaleP { p_before_any_course } else { small_p(year, j) };
-        if p + w > year.terms[j].high_credits {
-            strike(year, i, j);
-        } else if large_p(year, j) - w < year.terms[j].low_credits {
-            fix(year, i, j);
-        }
+        strike_or_fix(year, i, j, p);
     }
     Ok(())
+}
+
+/// Rule 3 for one open course, with the p that was read for it.
+pub fn strike_or_fix(year: &mut Year, i: usize, j: usize, p: i64) {
+    let w = year.courses[i].weight;
+    if p + w > year.terms[j].high_credits {
+        strike(year, i, j);
+    } else if large_p(year, j) - w < year.terms[j].low_credits {
+        fix(year, i, j);
+    }
 }
 
 fn strike(year: &mut Year, i: usize, j: usize) {
@@ -176,12 +177,100 @@ pub fn rule_5(year: &mut Year, j: usize) -> Step {
 
 // ---- Rules 6 to 9: walks over the open courses with spares ----
 
-/// The number of open courses each term can still spare; the entry of the walked
-/// term itself is never read.
-pub type Spares = Vec<i64>;
+/// A walk over the open courses of term j, as far as it has come. Rules 6 to 9 differ in
+/// the order of the courses, in what stops them and in what they take from the end.
+pub struct Walk<'a> {
+    pub year: &'a Year,
+    pub rule: u8,
+    pub j: usize,
+    /// The courses that the walk has not come to yet.
+    ahead: VecDeque<usize>,
+    /// The number of open courses each term can still spare; the entry of the walked
+    /// term itself is never read.
+    pub spares: Vec<i64>,
+    /// Starting at p.
+    pub credits: i64,
+    /// Starting at the number fixed, so that it is fixed plus counted.
+    pub count: i64,
+}
+
+impl Walk<'_> {
+    /// A walk that has not met a course yet, with fresh spares.
+    pub fn set_out(year: &Year, rule: u8, j: usize) -> Walk<'_> {
+        let row =
+            if heaviest_first(rule) { from_heaviest(year, j) } else { from_lightest(year, j) };
+        Walk {
+            year,
+            rule,
+            j,
+            ahead: row.into(),
+            spares: spares(year, j),
+            credits: small_p(year, j),
+            count: number_fixed(year, j),
+        }
+    }
+
+    /// The next course, if courses have not ended.
+    pub fn next_course(&self) -> Option<usize> {
+        self.ahead.front().copied()
+    }
+
+    /// Rule 6: credits reach low credits. Rule 7: the next course, skipped or not, would
+    /// pass high credits. Rule 8: the count reaches low count. Rule 9: the count reaches
+    /// high count.
+    pub fn stops(&self) -> bool {
+        let term = &self.year.terms[self.j];
+        let passes = |i: usize| self.credits + self.year.courses[i].weight > term.high_credits;
+        match self.rule {
+            6 => self.credits >= term.low_credits,
+            7 => self.next_course().is_some_and(passes),
+            8 => self.count >= term.low_count,
+            9 => self.count >= term.high_count,
+            _ => panic!("rules 6 to 9 walk"),
+        }
+    }
+
+    /// Meets the next course, unless the walk stops or courses end: Skip it if some other
+    /// term that lists it has spare 0; otherwise add its weight, count one, and take one
+    /// from the spare of each other term that lists it.
+    pub fn step(&mut self, trap: Trap) -> Option<Met> {
+        if self.stops() {
+            return None;
+        }
+        let course = self.ahead.pop_front()?;
+        let others = other_terms(self.year, course, self.j);
+        let skipped_by = others.iter().copied().find(|&k| self.spares[k] == 0);
+        if skipped_by.is_none() {
+            self.credits += self.year.courses[course].weight;
+            self.count += 1;
+            let charged = if trap == Trap::ChargeOneTerm { &others[..1] } else { &others };
+            charged.iter().for_each(|&k| self.spares[k] -= 1);
+        }
+        Some(Met { course, skipped_by })
+    }
+
+    /// The walk to its end.
+    fn to_its_end(year: &Year, rule: u8, j: usize, trap: Trap) -> Walk<'_> {
+        let mut walk = Walk::set_out(year, rule, j);
+        while let Some(met) = walk.step(trap) {
+            if trap == Trap::StopAtSkip && rule == 7 && met.skipped_by.is_some() {
+                break;
+            }
+        }
+        walk
+    }
+}
+
+/// A course that a walk met. If it was skipped, the lowest other term that lists it and
+/// has spare 0.
+#[derive(Clone, Copy, Debug, PartialEq, Eq)]
+pub struct Met {
+    pub course: usize,
+    pub skipped_by: Option<usize>,
+}
 
 /// For each other term k: open(k) - (low count of k - number fixed in k).
-pub fn spares(year: &Year, j: usize) -> Spares {
+pub fn spares(year: &Year, j: usize) -> Vec<i64> {
     (0..year.terms.len())
         .map(|k| {
             if k == j {
@@ -193,19 +282,9 @@ pub fn spares(year: &Year, j: usize) -> Spares {
         .collect()
 }
 
-/// Some other term that lists the course has spare 0.
-fn is_skipped(year: &Year, i: usize, j: usize, spares: &Spares) -> bool {
-    other_terms(year, i, j).into_iter().any(|k| spares[k] == 0)
-}
-
-/// Takes one from the spare of each other term that lists the course.
-fn charge(year: &Year, i: usize, j: usize, spares: &mut Spares, trap: Trap) {
-    for k in other_terms(year, i, j) {
-        spares[k] -= 1;
-        if trap == Trap::ChargeOneTerm {
-            return;
-        }
-    }
+/// Rules 6 and 9 walk from heaviest to lightest, rules 7 and 8 from lightest to heaviest.
+pub fn heaviest_first(rule: u8) -> bool {
+    rule == 6 || rule == 9
 }
 
 /// Open courses of j from heaviest to lightest, ties by lower number.
@@ -222,24 +301,12 @@ pub fn from_lightest(year: &Year, j: usize) -> Vec<usize> {
     courses
 }
 
-/// Rule 6's walk: fixed plus counted, or no plan when low credits is not reached.
+/// Rule 6's walk: fixed plus counted. Not reaching low credits is no plan: then courses
+/// have ended and the walk does not stop.
 pub fn least_count(year: &Year, j: usize, trap: Trap) -> Result<i64, NoPlan> {
-    let mut spares = spares(year, j);
-    let mut credits = small_p(year, j);
-    let mut counted = 0;
-    for i in from_heaviest(year, j) {
-        if credits >= year.terms[j].low_credits {
-            break;
-        }
-        if is_skipped(year, i, j, &spares) {
-            continue;
-        }
-        credits += year.courses[i].weight;
-        counted += 1;
-        charge(year, i, j, &mut spares, trap);
-    }
-    no_plan_if(credits < year.terms[j].low_credits)?;
-    Ok(number_fixed(year, j) + counted)
+    let walk = Walk::to_its_end(year, 6, j, trap);
+    no_plan_if(!walk.stops())?;
+    Ok(walk.count)
 }
 
 /// Rule 6: Least count: raise low count to fixed plus counted.
@@ -248,27 +315,9 @@ pub fn rule_6(year: &mut Year, j: usize, trap: Trap) -> Step {
     raise_low_count(year, j, least)
 }
 
-/// Rule 7's walk: fixed plus counted. It stops when the next course, skipped or
-/// not, would pass high credits.
+/// Rule 7's walk: fixed plus counted.
 pub fn most_count(year: &Year, j: usize, trap: Trap) -> i64 {
-    let mut spares = spares(year, j);
-    let mut credits = small_p(year, j);
-    let mut counted = 0;
-    for i in from_lightest(year, j) {
-        if credits + year.courses[i].weight > year.terms[j].high_credits {
-            break;
-        }
-        if is_skipped(year, i, j, &spares) {
-            if trap == Trap::StopAtSkip {
-                break;
-            }
-            continue;
-        }
-        credits += year.courses[i].weight;
-        counted += 1;
-        charge(year, i, j, &mut spares, trap);
-    }
-    number_fixed(year, j) + counted
+    Walk::to_its_end(year, 7, j, trap).count
 }
 
 /// Rule 7: Most count: lower high count to fixed plus counted.
@@ -277,25 +326,12 @@ pub fn rule_7(year: &mut Year, j: usize, trap: Trap) -> Step {
     lower_high_count(year, j, most)
 }
 
-/// Rule 8's walk: that of rule 7 without its stop, until the count reaches low
-/// count; the credits so reached, or no plan when it is not reached.
+/// Rule 8's walk, that of rule 7 without its stop: the credits so reached. Not reaching
+/// low count is no plan.
 pub fn least_load(year: &Year, j: usize, trap: Trap) -> Result<i64, NoPlan> {
-    let mut spares = spares(year, j);
-    let mut credits = small_p(year, j);
-    let mut count = number_fixed(year, j);
-    for i in from_lightest(year, j) {
-        if count >= year.terms[j].low_count {
-            break;
-        }
-        if is_skipped(year, i, j, &spares) {
-            continue;
-        }
-        credits += year.courses[i].weight;
-        count += 1;
-        charge(year, i, j, &mut spares, trap);
-    }
-    no_plan_if(count < year.terms[j].low_count)?;
-    Ok(credits)
+    let walk = Walk::to_its_end(year, 8, j, trap);
+    no_plan_if(!walk.stops())?;
+    Ok(walk.credits)
 }
 
 /// Rule 8: Least load: raise low credits to the credits so reached.
@@ -304,24 +340,10 @@ pub fn rule_8(year: &mut Year, j: usize, trap: Trap) -> Step {
     raise_low_credits(year, j, least)
 }
 
-/// Rule 9's walk: that of rule 6 without its stop, skips included, until the count
-/// reaches high count or courses end; the credits so reached.
+/// Rule 9's walk, that of rule 6 without its stop, skips included: the credits so
+/// reached.
 pub fn most_load(year: &Year, j: usize, trap: Trap) -> i64 {
-    let mut spares = spares(year, j);
-    let mut credits = small_p(year, j);
-    let mut count = number_fixed(year, j);
-    for i in from_heaviest(year, j) {
-        if count >= year.terms[j].high_count {
-            break;
-        }
-        if is_skipped(year, i, j, &spares) {
-            continue;
-        }
-        credits += year.courses[i].weight;
-        count += 1;
-        charge(year, i, j, &mut spares, trap);
-    }
-    credits
+    Walk::to_its_end(year, 9, j, trap).credits
 }
 
 /// Rule 9: Most load: lower high credits to the credits so reached.
@@ -332,22 +354,46 @@ pub fn rule_9(year: &mut Year, j: usize, trap: Trap) -> Step {
 
 // ---- Rules 10 and 11 ----
 
+/// What rule 10 finds at a term, by its sentences in order.
+#[derive(Clone, Copy, Debug, PartialEq, Eq)]
+pub enum Fullness {
+    FixedExceedsHighCount,
+    FixedPlusOpenBelowLowCount,
+    FixedEqualsHighCount,
+    FixedPlusOpenEqualsLowCount,
+    Neither,
+}
+
+/// Rule 10's conditions, read once for the term.
+pub fn fullness(year: &Year, j: usize) -> Fullness {
+    let fixed = number_fixed(year, j);
+    let fixed_plus_open = fixed + number_open(year, j);
+    let Term { low_count, high_count, .. } = year.terms[j];
+    if fixed > high_count {
+        Fullness::FixedExceedsHighCount
+    } else if fixed_plus_open < low_count {
+        Fullness::FixedPlusOpenBelowLowCount
+    } else if fixed == high_count {
+        Fullness::FixedEqualsHighCount
+    } else if fixed_plus_open == low_count {
+        Fullness::FixedPlusOpenEqualsLowCount
+    } else {
+        Fullness::Neither
+    }
+}
+
 /// Rule 10: If fixed exceeds high count, or fixed plus open is below low count: no plan.
 /// If fixed equals high count, strike j from every open course; otherwise, if fixed
 /// plus open equals low count, every open course gets j alone.
 pub fn rule_10(year: &mut Year, j: usize) -> Step {
-    let fixed = number_fixed(year, j);
-    let fixed_plus_open = fixed + number_open(year, j);
-    let Term { low_count, high_count, .. } = year.terms[j];
-    no_plan_if(fixed > high_count || fixed_plus_open < low_count)?;
-    if fixed == high_count {
-        for i in open(year, j) {
-            strike(year, i, j);
+    let courses = open(year, j);
+    match fullness(year, j) {
+        Fullness::FixedExceedsHighCount | Fullness::FixedPlusOpenBelowLowCount => {
+            return Err(NoPlan);
         }
-    } else if fixed_plus_open == low_count {
-        for i in open(year, j) {
-            fix(year, i, j);
-        }
+        Fullness::FixedEqualsHighCount => courses.into_iter().for_each(|i| strike(year, i, j)),
+        Fullness::FixedPlusOpenEqualsLowCount => courses.into_iter().for_each(|i| fix(year, i, j)),
+        Fullness::Neither => {}
     }
     Ok(())
 }
@@ -356,7 +402,7 @@ pub fn rule_10(year: &mut Year, j: usize) -> Step {
 /// credits; with c = 0 stop here. If for some t the sum divided by c, rounded up,
 /// exceeds the number of terms: no plan. (The t that are tried are those of 02, A2.)
 pub fn rule_11(year: &mut Year, trap: Trap) -> Step {
-    no_plan_if(p_exceeds_high_credits(year))?;
+    no_plan_if(term_over(year).is_some())?;
     let c = largest_high_credits(year);
     if c == 0 {
         return Ok(());
@@ -368,9 +414,9 @@ pub fn rule_11(year: &mut Year, trap: Trap) -> Step {
     no_plan_if(quotient > year.terms.len() as i64)
 }
 
-/// p exceeds high credits for some term.
-pub fn p_exceeds_high_credits(year: &Year) -> bool {
-    (0..year.terms.len()).any(|j| small_p(year, j) > year.terms[j].high_credits)
+/// The first term whose p exceeds high credits, if p does for some term.
+pub fn term_over(year: &Year) -> Option<usize> {
+    (0..year.terms.len()).find(|&j| small_p(year, j) > year.terms[j].high_credits)
 }
 
 /// c, the largest high credits.

@@ -101,7 +101,7 @@ fn step_told(before: &Year, rule: u8, j: usize) -> Told {
     let mut lines = numbers_read(before, rule, j);
     lines.extend(bounds_altered(&before.terms[j], &after.terms[j]));
     if rule == 3 {
-        lines.extend(rule_3_told(before, &after, j));
+        lines.extend(rule_3_told(before, j));
     } else {
         lines.extend(lists_altered(before, &after, j));
     }
@@ -147,8 +147,8 @@ fn numbers_read(year: &Year, rule: u8, j: usize) -> Vec<String> {
             vec![what_is_left("n", all_courses(year), "counts", high, low)]
         }
         6..=9 => walk_told(year, rule, j),
-        10 => rule_10_told(term, fixed, both),
-        _ => packing_told(year, true),
+        10 => rule_10_told(year, j, fixed, both),
+        _ => rule_11_told(year, true),
     }
 }
 
@@ -163,21 +163,19 @@ fn what_is_left(whole: &str, all: i64, of: &str, high: i64, low: i64) -> String 
     )
 }
 
-fn rule_10_told(term: &Term, fixed: i64, both: i64) -> Vec<String> {
-    let Term { low_count, high_count, .. } = *term;
+fn rule_10_told(year: &Year, j: usize, fixed: i64, both: i64) -> Vec<String> {
+    let Term { low_count, high_count, .. } = year.terms[j];
     let read = format!(
         "fixed {fixed}, fixed plus open {both}, low count {low_count}, high count {high_count}"
     );
-    let says = if fixed > high_count {
-        "fixed exceeds high count"
-    } else if both < low_count {
-        "fixed plus open is below low count"
-    } else if fixed == high_count {
-        "fixed equals high count: strike every open course"
-    } else if both == low_count {
-        "fixed plus open equals low count: fix every open course"
-    } else {
-        return vec![read];
+    let says = match fullness(year, j) {
+        Fullness::FixedExceedsHighCount => "fixed exceeds high count",
+        Fullness::FixedPlusOpenBelowLowCount => "fixed plus open is below low count",
+        Fullness::FixedEqualsHighCount => "fixed equals high count: strike every open course",
+        Fullness::FixedPlusOpenEqualsLowCount => {
+            "fixed plus open equals low count: fix every open course"
+        }
+        Fullness::Neither => return vec![read],
     };
     vec![read, says.to_string()]
 }
@@ -218,7 +216,7 @@ fn lists_altered(was: &Year, is: &Year, j: usize) -> Vec<String> {
 /// How the list of course i was altered by a step at term j.
 fn list_altered(was: &Year, is: &Year, i: usize, j: usize) -> String {
     let (list, now) = (was.courses[i].list, is.courses[i].list);
-    let did = if now >> j & 1 == 1 { "fix in" } else { "strike" };
+    let did = if is.courses[i].lists(j) { "fix in" } else { "strike" };
     format!("{did} term {j}, list {} -> {}", terms_with_commas(list), terms_with_commas(now))
 }
 
@@ -227,289 +225,168 @@ fn course(year: &Year, i: usize) -> String {
     format!("course {i} ({})", year.courses[i].weight)
 }
 
-/// Rule 3, course by course, from the year before it to the year after it.
-fn rule_3_told(before: &Year, after: &Year, j: usize) -> Vec<String> {
+/// Rule 3, course by course, from the year before it.
+fn rule_3_told(before: &Year, j: usize) -> Vec<String> {
     let mut now = before.clone();
+    let Term { low_credits: low, high_credits: high, .. } = before.terms[j];
     let mut lines = vec![];
     for i in open(before, j) {
-        let Term { low_credits: low, high_credits: high, .. } = now.terms[j];
-        let (p, large, w) = (small_p(&now, j), large_p(&now, j), now.courses[i].weight);
-        let with = p + w;
-        let without = large - w;
-        let (says, list) = if with > high {
-            (format!("p {p} + {w} = {with} exceeds {high}"), now.courses[i].list & !(1 << j))
-        } else if without < low {
-            (format!("p {p} + {w} = {with}; P {large} - {w} = {without} is below {low}"), 1 << j)
-        } else {
-            (format!("p {p} + {w} = {with}; P {large} - {w} = {without}"), now.courses[i].list)
-        };
         let was = now.clone();
-        now.courses[i].list = list;
-        let does = if now == was { "leave it".to_string() } else { list_altered(&was, &now, i, j) };
-        lines.push(format!("{}: {says}: {does}", course(before, i)));
+        let (p, large, w) = (small_p(&was, j), large_p(&was, j), was.courses[i].weight);
+        strike_or_fix(&mut now, i, j, p);
+        let with = format!("p {p} + {w} = {}", p + w);
+        let without = format!("P {large} - {w} = {}", large - w);
+        let does = list_altered(&was, &now, i, j);
+        let says = if now == was {
+            format!("{with}; {without}: leave it")
+        } else if now.courses[i].lists(j) {
+            format!("{with}; {without} is below {low}: {does}")
+        } else {
+            format!("{with} exceeds {high}: {does}")
+        };
+        lines.push(format!("{}: {says}", course(before, i)));
     }
-    assert_eq!(now, *after, "rule 3 at term {j} of {before:?}");
     lines
 }
 
 // ---- Rules 6 to 9 ----
 
-/// A walk as far as it has come.
-struct Walk<'a> {
-    year: &'a Year,
-    rule: u8,
-    j: usize,
-    spares: Spares,
-    credits: i64,
-    count: i64,
-    lines: Vec<String>,
-}
-
-/// The walk of rule 6, 7, 8 or 9, course by course. It ends in the very numbers that
-/// the rule's own walk gives.
+/// The walk of rule 6, 7, 8 or 9, course by course.
 fn walk_told(year: &Year, rule: u8, j: usize) -> Vec<String> {
-    let heaviest = rule == 6 || rule == 9;
-    let row = if heaviest { from_heaviest(year, j) } else { from_lightest(year, j) };
-    let mut walk = Walk {
-        year,
-        rule,
-        j,
-        spares: spares(year, j),
-        credits: small_p(year, j),
-        count: number_fixed(year, j),
-        lines: vec![],
-    };
-    walk.set_out(heaviest);
-    walk.through(&row);
-    let reaches = |reached: bool, number: i64| if reached { Ok(number) } else { Err(NoPlan) };
-    let Term { low_credits, low_count, .. } = year.terms[j];
-    let (told, walked) = match rule {
-        6 => (reaches(walk.credits >= low_credits, walk.count), least_count(year, j, Trap::None)),
-        7 => (Ok(walk.count), Ok(most_count(year, j, Trap::None))),
-        8 => (reaches(walk.count >= low_count, walk.credits), least_load(year, j, Trap::None)),
-        _ => (Ok(walk.credits), Ok(most_load(year, j, Trap::None))),
-    };
-    assert_eq!(told, walked, "rule {rule} at term {j} of {year:?}");
-    walk.lines
+    let mut walk = Walk::set_out(year, rule, j);
+    let mut lines = vec![going_for(&walk), start_told(&walk)];
+    while let Some(met) = walk.step(Trap::None) {
+        lines.push(met_told(&walk, met));
+    }
+    lines.push(if walk.stops() { stop_told(&walk) } else { end_told(&walk) });
+    lines
 }
 
-impl Walk<'_> {
-    fn set_out(&mut self, heaviest: bool) {
-        let order = if heaviest { "heaviest first" } else { "lightest first" };
-        self.lines.push(format!("{order}, {}", self.until()));
-        let mut start = format!("start: credits {}, count {}", self.credits, self.count);
-        for k in (0..self.year.terms.len()).filter(|&k| k != self.j) {
-            let (open, fixed) = (number_open(self.year, k), number_fixed(self.year, k));
-            let low = self.year.terms[k].low_count;
-            start +=
-                &format!("; spare of term {k}: {open} - ({low} - {fixed}) = {}", self.spares[k]);
-        }
-        self.lines.push(start);
-    }
+fn going_for(walk: &Walk) -> String {
+    let order = if heaviest_first(walk.rule) { "heaviest first" } else { "lightest first" };
+    let term = &walk.year.terms[walk.j];
+    let until = match walk.rule {
+        6 => format!("credits reach low credits {}", term.low_credits),
+        7 => format!("the next course would pass high credits {}", term.high_credits),
+        8 => format!("the count reaches low count {}", term.low_count),
+        _ => format!("the count reaches high count {}", term.high_count),
+    };
+    format!("{order}, until {until}")
+}
 
-    fn until(&self) -> String {
-        let term = &self.year.terms[self.j];
-        match self.rule {
-            6 => format!("until credits reach low credits {}", term.low_credits),
-            7 => format!("until the next course would pass high credits {}", term.high_credits),
-            8 => format!("until the count reaches low count {}", term.low_count),
-            _ => format!("until the count reaches high count {}", term.high_count),
-        }
+fn start_told(walk: &Walk) -> String {
+    let Walk { year, j, credits, count, .. } = *walk;
+    let mut start = format!("start: credits {credits}, count {count}");
+    for k in (0..year.terms.len()).filter(|&k| k != j) {
+        let (open, fixed) = (number_open(year, k), number_fixed(year, k));
+        let (low, spare) = (year.terms[k].low_count, walk.spares[k]);
+        start += &format!("; spare of term {k}: {open} - ({low} - {fixed}) = {spare}");
     }
+    start
+}
 
-    /// The walk has what it goes for. Rule 7 goes for nothing: a course stops it.
-    fn reached(&self) -> Option<String> {
-        let term = &self.year.terms[self.j];
-        let (credits, count) = (self.credits, self.count);
-        match self.rule {
-            6 if credits >= term.low_credits => {
-                Some(format!("credits {credits} reach low credits {}", term.low_credits))
-            }
-            8 if count >= term.low_count => {
-                Some(format!("count {count} reaches low count {}", term.low_count))
-            }
-            9 if count >= term.high_count => {
-                Some(format!("count {count} reaches high count {}", term.high_count))
-            }
-            _ => None,
-        }
+/// A course that the walk has met, with the numbers that it then has.
+fn met_told(walk: &Walk, met: Met) -> String {
+    let Walk { year, j, credits, count, .. } = *walk;
+    let course = course(year, met.course);
+    if let Some(k) = met.skipped_by {
+        return format!("{course}: skip it: spare of term {k} is 0");
     }
+    let spare = |k: usize| format!("; spare of term {k}: {}", walk.spares[k]);
+    let spares: String = other_terms(year, met.course, j).into_iter().map(spare).collect();
+    format!("{course}: count it: credits {credits}, count {count}{spares}")
+}
 
-    /// Walks through the row until something stops it or the row ends.
-    fn through(&mut self, row: &[usize]) {
-        for &i in row {
-            if self.stops_before(i) {
-                return;
-            }
-            self.count_or_skip(i);
+/// What stopped the walk.
+fn stop_told(walk: &Walk) -> String {
+    let Walk { year, j, credits, count, .. } = *walk;
+    let term = &year.terms[j];
+    match (walk.rule, walk.next_course()) {
+        (7, Some(i)) => {
+            let (w, high) = (year.courses[i].weight, term.high_credits);
+            format!("{}: stop: {credits} + {w} = {} passes {high}", course(year, i), credits + w)
         }
-        self.ends();
+        (6, _) => format!("stop: credits {credits} reach low credits {}", term.low_credits),
+        (8, _) => format!("stop: count {count} reaches low count {}", term.low_count),
+        _ => format!("stop: count {count} reaches high count {}", term.high_count),
     }
+}
 
-    /// Tells that the walk stops before course i, if it does.
-    fn stops_before(&mut self, i: usize) -> bool {
-        let (credits, w) = (self.credits, self.year.courses[i].weight);
-        let high = self.year.terms[self.j].high_credits;
-        let stop = if self.rule == 7 && credits + w > high {
-            let sum = credits + w;
-            Some(format!("{}: stop: {credits} + {w} = {sum} passes {high}", course(self.year, i)))
-        } else {
-            self.reached().map(|what| format!("stop: {what}"))
-        };
-        let stops = stop.is_some();
-        self.lines.extend(stop);
-        stops
-    }
-
-    fn count_or_skip(&mut self, i: usize) {
-        let others = other_terms(self.year, i, self.j);
-        let course = course(self.year, i);
-        if let Some(k) = others.iter().find(|&&k| self.spares[k] == 0) {
-            self.lines.push(format!("{course}: skip it: spare of term {k} is 0"));
-            return;
-        }
-        self.credits += self.year.courses[i].weight;
-        self.count += 1;
-        let (credits, count) = (self.credits, self.count);
-        let mut line = format!("{course}: count it: credits {credits}, count {count}");
-        for k in others {
-            self.spares[k] -= 1;
-            line += &format!("; spare of term {k}: {}", self.spares[k]);
-        }
-        self.lines.push(line);
-    }
-
-    /// The row of courses ends before any stop.
-    fn ends(&mut self) {
-        let term = &self.year.terms[self.j];
-        let line = match (self.reached(), self.rule) {
-            (Some(what), _) => format!("stop: {what}"),
-            (None, 6) => {
-                let (credits, low) = (self.credits, term.low_credits);
-                format!("no course is left: credits {credits} do not reach low credits {low}")
-            }
-            (None, 8) => {
-                let (count, low) = (self.count, term.low_count);
-                format!("no course is left: count {count} does not reach low count {low}")
-            }
-            (None, _) => "no course is left".to_string(),
-        };
-        self.lines.push(line);
-    }
+/// Courses ended, and nothing stopped the walk.
+fn end_told(walk: &Walk) -> String {
+    let Walk { credits, count, .. } = *walk;
+    let Term { low_credits, low_count, .. } = walk.year.terms[walk.j];
+    let misses = match walk.rule {
+        6 => format!(": credits {credits} do not reach low credits {low_credits}"),
+        8 => format!(": count {count} does not reach low count {low_count}"),
+        _ => String::new(),
+    };
+    format!("no course is left{misses}")
 }
 
 // ---- Rule 11, with A2's thresholds ----
-
-/// What rule 11 is written down with: c, the sizes in rising order, the number of terms.
-pub struct Packing {
-    pub c: i64,
-    pub sizes: Vec<i64>,
-    pub terms: i64,
-}
-
-impl Packing {
-    pub fn of(year: &Year) -> Packing {
-        let c = year.terms.iter().map(|term| term.high_credits).max().expect("a year has a term");
-        let mut sizes = sizes(year, c);
-        sizes.sort_unstable();
-        Packing { c, sizes, terms: year.terms.len() as i64 }
-    }
-
-    /// The number of terms times c, which no sum may exceed.
-    pub fn room(&self) -> i64 {
-        self.terms * self.c
-    }
-
-    /// The sizes that are at most c/2, and c/2 rounded down (A2), each once, rising.
-    pub fn thresholds(&self) -> Vec<i64> {
-        let mut all: Vec<i64> = self.sizes.iter().copied().filter(|&s| 2 * s <= self.c).collect();
-        all.push(self.c / 2);
-        all.sort_unstable();
-        all.dedup();
-        all
-    }
-
-    /// What a size counts for at threshold t.
-    pub fn counts_for(&self, size: i64, t: i64) -> i64 {
-        if size > self.c - t {
-            self.c
-        } else if size < t {
-            0
-        } else {
-            size
-        }
-    }
-
-    /// The sum at threshold t.
-    pub fn sum(&self, t: i64) -> i64 {
-        self.sizes.iter().map(|&size| self.counts_for(size, t)).sum()
-    }
-
-    /// The largest sum over the thresholds.
-    pub fn largest(&self) -> i64 {
-        self.thresholds().into_iter().map(|t| self.sum(t)).max().expect("c/2 is tried")
-    }
-
-    /// No sum is above this, whatever the threshold: a size up to c/2 counts at most
-    /// itself, a larger one at most c.
-    pub fn at_once(&self) -> i64 {
-        let most = |&size: &i64| if 2 * size <= self.c { size } else { self.c };
-        self.sizes.iter().map(most).sum()
-    }
-}
 
 /// Rule 11 with every threshold, though the short-cut would do without.
 fn table_of_rule_11(year: &Year) -> Vec<String> {
     let found = rule_11(&mut year.clone(), Trap::None);
     let did = if found.is_err() { Did::FindNoPlan } else { Did::Nothing };
-    laid_out("rule 11", packing_told(year, false), did)
+    laid_out("rule 11", rule_11_told(year, false), did)
 }
 
 /// Rule 11 as far as the year takes it. With the short-cut the table is left out where
-/// it has nothing to find. The table finds no plan exactly where the rule does.
-fn packing_told(year: &Year, short_cut: bool) -> Vec<String> {
-    let over = (0..year.terms.len()).find(|&j| small_p(year, j) > year.terms[j].high_credits);
-    if let Some(j) = over {
+/// it has nothing to find.
+fn rule_11_told(year: &Year, short_cut: bool) -> Vec<String> {
+    if let Some(j) = term_over(year) {
         let (p, high) = (small_p(year, j), year.terms[j].high_credits);
         return vec![format!("p {p} of term {j} exceeds high credits {high}")];
     }
-    let packing = Packing::of(year);
-    if packing.c == 0 {
+    let c = largest_high_credits(year);
+    if c == 0 {
         return vec!["no p exceeds high credits; c 0: stop here".to_string()];
     }
-    let found = rule_11(&mut year.clone(), Trap::None);
-    assert_eq!(packing.largest() > packing.room(), found.is_err(), "rule 11 of {year:?}");
-    let mut lines = vec![format!("no p exceeds high credits; c {}", packing.c)];
-    lines.extend(sizes_told(year, &packing));
+    let (sizes, terms) = (sizes(year, c), year.terms.len() as i64);
+    let room = terms * c;
+    let mut lines = vec![format!("no p exceeds high credits; c {c}")];
+    lines.extend(sizes_told(year, c));
+    lines.push(format!("terms times c: {terms} x {c} = {room}"));
     if short_cut {
-        lines.push(at_once_told(&packing));
+        lines.push(at_once_told(&sizes, c, room));
     }
-    if !short_cut || packing.at_once() > packing.room() {
-        lines.extend(table_told(&packing));
+    if !short_cut || at_once(&sizes, c) > room {
+        lines.extend(table_told(sizes, c, terms));
     }
     lines
 }
 
 /// The sizes as they come: the open courses by number, then the terms.
-fn sizes_told(year: &Year, packing: &Packing) -> Vec<String> {
-    let open = year.courses.iter().filter(|course| course.listed() > 1);
-    let weights: Vec<String> = open.map(|course| course.weight.to_string()).collect();
+fn sizes_told(year: &Year, c: i64) -> Vec<String> {
+    let weights: Vec<String> = course_sizes(year).iter().map(i64::to_string).collect();
     let weights = if weights.is_empty() { "none".to_string() } else { weights.join(" ") };
     let mut lines = vec![format!("sizes of open courses: {weights}")];
-    for (j, term) in year.terms.iter().enumerate() {
-        let (c, high, p) = (packing.c, term.high_credits, small_p(year, j));
-        lines.push(format!("size of term {j}: {c} - ({high} - {p}) = {}", c - (high - p)));
+    for (j, size) in term_sizes(year, c).into_iter().enumerate() {
+        let (high, p) = (year.terms[j].high_credits, small_p(year, j));
+        lines.push(format!("size of term {j}: {c} - ({high} - {p}) = {size}"));
     }
-    lines.push(format!("terms times c: {} x {} = {}", packing.terms, packing.c, packing.room()));
     lines
 }
 
-/// The short-cut: the sizes up to c/2 added up, and c for each larger one.
-fn at_once_told(packing: &Packing) -> String {
-    let small = packing.sizes.iter().filter(|&&size| 2 * size <= packing.c);
-    let larger = packing.sizes.len() - small.clone().count();
-    let (sum, c, once) = (small.sum::<i64>(), packing.c, packing.at_once());
-    format!("at once: {sum} + {larger} x {c} = {once} {}", beside(once, packing.room()))
+/// The short-cut: no sum is above this, whatever the threshold, as a size at most c/2
+/// counts at most itself and a larger one at most c.
+pub fn at_once(sizes: &[i64], c: i64) -> i64 {
+    let (sum, larger) = up_to_half_and_larger(sizes, c);
+    sum + larger * c
+}
+
+/// The sum of the sizes that are at most c/2, and the number of the larger ones.
+fn up_to_half_and_larger(sizes: &[i64], c: i64) -> (i64, i64) {
+    let (up_to_half, larger): (Vec<i64>, Vec<i64>) = sizes.iter().partition(|&&size| size <= c / 2);
+    (up_to_half.iter().sum(), larger.len() as i64)
+}
+
+fn at_once_told(sizes: &[i64], c: i64, room: i64) -> String {
+    let (sum, larger) = up_to_half_and_larger(sizes, c);
+    let once = at_once(sizes, c);
+    format!("at once: {sum} + {larger} x {c} = {once} {}", beside(once, room))
 }
 
 /// A number beside the one that it should not exceed.
@@ -518,29 +395,35 @@ fn beside(number: i64, most: i64) -> String {
 }
 
 /// The table: a column for each size, a row for each threshold, the sum behind it.
-fn table_told(packing: &Packing) -> Vec<String> {
-    let widest = packing.sizes.iter().copied().max().unwrap_or(0).max(packing.c);
-    let cell = widest.to_string().len();
+fn table_told(mut sizes: Vec<i64>, c: i64, terms: i64) -> Vec<String> {
+    sizes.sort();
+    let tried = thresholds(&sizes, c);
+    let largest = tried.iter().map(|&t| sum_at(&sizes, c, t)).max().expect("c/2 is tried");
+    let cell = digits(c.max(sizes[sizes.len() - 1]));
+    let wide = digits(largest).max("sum".len());
     let row = |name: &str, cells: &[i64], sum: &str| {
         let cells: String = cells.iter().map(|number| format!(" {number:>cell$}")).collect();
         format!("{name} |{cells} | {sum}")
     };
-    let largest = packing.largest();
-    let wide = largest.to_string().len().max("sum".len());
     let head = format!("size{}", " ".repeat(cell.saturating_sub(2)));
-    let mut lines = vec![row(&head, &packing.sizes, &format!("{:>wide$}", "sum"))];
-    for t in packing.thresholds() {
-        let counts = packing.sizes.iter().map(|&size| packing.counts_for(size, t));
-        let sum = packing.sum(t);
-        let sum = format!("{sum:>wide$} {}", beside(sum, packing.room()));
-        lines.push(row(&format!("t {t:>0$}", cell.max(2)), &counts.collect::<Vec<_>>(), &sum));
+    let mut lines = vec![row(&head, &sizes, &format!("{:>wide$}", "sum"))];
+    for t in tried {
+        let counts: Vec<i64> = sizes.iter().map(|&size| counts_as(size, c, t)).collect();
+        let sum = sum_at(&sizes, c, t);
+        let sum = format!("{sum:>wide$} {}", beside(sum, terms * c));
+        lines.push(row(&format!("t {t:>0$}", cell.max(2)), &counts, &sum));
     }
-    let (c, quotient) = (packing.c, (largest + packing.c - 1) / packing.c);
-    let verdict = beside(quotient, packing.terms);
+    let quotient = largest_quotient(&sizes, c, Trap::None);
+    let verdict = beside(quotient, terms);
     lines.push(format!(
         "largest sum {largest}: divided by {c}, rounded up, {quotient} {verdict} terms"
     ));
     lines
+}
+
+/// How many digits a number has.
+fn digits(number: i64) -> usize {
+    number.to_string().len()
 }
 
 // ---- The page ----

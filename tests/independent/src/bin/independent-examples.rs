@@ -265,7 +265,7 @@ fn p_exceeds_at_rule_11(year: &Year) -> bool {
         Some(now) => now,
         None => return false,
     };
-    rules::p_exceeds_high_credits(&now)
+    rules::term_over(&now).is_some()
 }
 
 /// Without rule 4, rule 6 of round 1 goes through on a year with a spare below 0,
