@@ -113,6 +113,14 @@ pub fn hex(list: &[u8]) -> String {
     list.chunks(records::RECORD).map(|record| line(record) + "\n").collect()
 }
 
+/// Bytes from hex, blanks and ends of lines left out; none where it is not hex.
+pub fn of_hex(text: &str) -> Option<Vec<u8>> {
+    let digits = text.chars().filter(|digit| !digit.is_whitespace());
+    let digits: Vec<u32> = digits.map(|digit| digit.to_digit(16)).collect::<Option<_>>()?;
+    let byte = |two: &[u32]| (two.len() == 2).then(|| (16 * two[0] + two[1]) as u8);
+    digits.chunks(2).map(byte).collect()
+}
+
 /// Runs so many lists of every kind from a seed.
 pub fn run(
     left: &dyn Planner,
@@ -506,10 +514,10 @@ fn word(answer: Answer) -> String {
     }
 }
 
-/// How rule 11 finds no plan, for the counts, on the last year that it meets: by this
+/// How rule 11 finds no plan, as outcomes, on the last year that it meets: by this
 /// program's filtering, so that no planner is asked. None where it finds nothing there,
 /// as it may when two wrong programs are compared.
-fn ways_of_rule_11(year: &Year) -> Vec<&'static str> {
+pub fn ways_of_rule_11(year: &Year) -> Vec<&'static str> {
     let met = match years_before(year, 11).pop() {
         Some(met) => met,
         None => return vec![],

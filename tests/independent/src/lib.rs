@@ -6,6 +6,7 @@
 #![allow(clippy::manual_is_multiple_of)]
 
 pub mod compare;
+pub mod examples;
 pub mod filter;
 pub mod generate;
 pub mod listing;

@@ -4,7 +4,7 @@
 //! tell the year before a step and what the step altered.
 
 use crate::filter::{filter_watched, run_rule_watched, run_step, Answer, Place, IN_ORDER};
-use crate::listing::{of_answer, terms_with_commas};
+use crate::listing::{of_answer, terms_with_commas, year_of};
 use crate::rules::*;
 use crate::traps::Trap;
 use crate::year::*;
@@ -459,6 +459,7 @@ pub fn traced(page: &str) -> Result<Vec<Traced>, String> {
     }
     match year {
         Some(_) => Err("the last year has no trace".to_string()),
+        None if found.is_empty() => Err("the page has no year".to_string()),
         None => Ok(found),
     }
 }
@@ -474,50 +475,6 @@ fn block<'a>(lines: &mut impl Iterator<Item = &'a str>) -> Result<String, String
         text += "\n";
     }
     Err("a block has no end".to_string())
-}
-
-/// A year from its T and C lines, as the listing has them.
-pub fn year_of(text: &str) -> Result<Year, String> {
-    let mut year = Year { terms: vec![], courses: vec![] };
-    for line in text.lines() {
-        let wrong = || format!("{line:?} is no line of a year");
-        let words: Vec<&str> = line.split(' ').collect();
-        let number = |at: usize| words[at].parse::<i64>().map_err(|_| wrong());
-        match (words[0], words.len()) {
-            ("T", 6) => year.terms.push(Term {
-                low_credits: number(2)?,
-                high_credits: number(3)?,
-                low_count: number(4)?,
-                high_count: number(5)?,
-            }),
-            ("C", 4) => {
-                let list = list_of(words[3]).ok_or_else(wrong)?;
-                year.courses.push(Course { weight: number(2)?, list });
-            }
-            _ => return Err(wrong()),
-        }
-    }
-    // What was not looked at (numbers, their order, other ways of writing) is seen by
-    // writing the year again.
-    if year.is_sound() && text_of(&year) == text {
-        Ok(year)
-    } else {
-        Err(format!("not a sound year as the listing has it:\n{text}"))
-    }
-}
-
-/// A list from its terms with commas.
-fn list_of(text: &str) -> Option<u32> {
-    text.split(',').try_fold(0, |list, term| {
-        let j: usize = term.parse().ok()?;
-        (j < MOST_TERMS).then(|| list | 1 << j)
-    })
-}
-
-/// The T and C lines of a year: its listing without the answer.
-pub fn text_of(year: &Year) -> String {
-    let listing = of_answer(Answer::Open { rounds: 0 }, Some(year));
-    listing.lines().skip(1).map(|line| line.to_string() + "\n").collect()
 }
 
 /// The years of a page, for whoever wants to run them too.

@@ -1,24 +1,31 @@
 //! Holds docs/RULES.md against the program: every trace on the page is the one that its
 //! year gives, to the letter, and the page has a year for all that it has to show.
 
-use independent::filter::{filter, run_rule, Answer};
+use independent::compare::{ways_of_rule_11, ONLY_AT_A_TERM, ONLY_AT_HALF};
+use independent::filter::{filter, run_rule, years_before, Answer};
 use independent::generate::{small, Random};
-use independent::listing::of_list;
+use independent::listing::{list_of, of_list, of_year, year_of};
 use independent::records::bytes;
-use independent::rules::{number_fixed, number_open};
+use independent::rules::*;
 use independent::trace::*;
 use independent::traps::Trap;
 use independent::year::*;
 
 const PAGE: &str = include_str!("../../../docs/RULES.md");
+const YEAR_E: &[u8] = include_bytes!("../../../data/e.year");
 
 fn on_the_page() -> Vec<Traced> {
     traced(PAGE).unwrap()
 }
 
+/// What the page has of one kind of trace.
+fn traced_as(kind: Kind) -> Vec<Traced> {
+    on_the_page().into_iter().filter(|traced| traced.kind == kind).collect()
+}
+
 /// The years of the page that a kind of trace is made of.
 fn years_traced(kind: Kind) -> Vec<Year> {
-    on_the_page().into_iter().filter(|traced| traced.kind == kind).map(|found| found.year).collect()
+    traced_as(kind).into_iter().map(|traced| traced.year).collect()
 }
 
 /// What is wrong with a page: a fault of its blocks, or the first trace that its year
@@ -52,13 +59,11 @@ fn every_trace_is_the_one_that_its_year_gives() {
 
 #[test]
 fn every_answer_is_the_one_of_filtering() {
-    let filterings = on_the_page().into_iter().filter(|found| found.kind == Kind::Filtering);
     let mut year_e = 0;
-    for Traced { year, trace, .. } in filterings {
-        let listing = of_list(&bytes(&year), Trap::None);
-        assert!(trace.ends_with(&format!("\n{listing}")), "{trace}");
-        let of_e = "OPEN 2\nT 0 3 4 1 1\nT 1 5 6 2 2\nC 0 4 0,1\nC 1 3 0,1\nC 2 2 0,1\n";
-        year_e += (listing == of_e) as u32;
+    for Traced { year, trace, .. } in traced_as(Kind::Filtering) {
+        let list = bytes(&year);
+        assert!(trace.ends_with(&format!("\n{}", of_list(&list, Trap::None))), "{trace}");
+        year_e += (list == YEAR_E) as u32;
     }
     assert_eq!(year_e, 1);
 }
@@ -101,79 +106,78 @@ fn walks_skip_and_rule_4_has_passed() {
 
 #[test]
 fn rule_10_in_both_cases() {
-    let has = |year: &Year, case: fn(&Term, i64, i64) -> bool| {
-        let case_of = |j| case(&year.terms[j], number_fixed(year, j), number_open(year, j));
-        (0..year.terms.len()).any(|j| number_open(year, j) > 0 && case_of(j))
-    };
     let years = years_traced(Kind::ByItself(10));
-    let full = |year: &&Year| has(year, |term, fixed, _| fixed == term.high_count);
-    let in_need = |year: &&Year| {
-        has(year, |term, fixed, open| fixed < term.high_count && fixed + open == term.low_count)
-    };
-    assert_eq!(years.iter().filter(full).count(), 1);
-    assert_eq!(years.iter().filter(in_need).count(), 1);
+    for case in [Fullness::FixedEqualsHighCount, Fullness::FixedPlusOpenEqualsLowCount] {
+        let at = |year: &Year, j| number_open(year, j) > 0 && fullness(year, j) == case;
+        let shows = |year: &&Year| (0..year.terms.len()).any(|j| at(year, j));
+        assert_eq!(years.iter().filter(shows).count(), 1, "{case:?}");
+    }
 }
 
 // ---- Rule 11's years, by computing ----
 
-/// The sum of rule 11 at t as document 01 has it, from the sizes.
-fn sum_at(t: i64, c: i64, sizes: &[i64]) -> i64 {
-    let count = |&size: &i64| match size {
-        size if size > c - t => c,
-        size if size < t => 0,
-        size => size,
-    };
-    sizes.iter().map(count).sum()
-}
-
-/// The thresholds at which the sum exceeds terms times c.
-fn exceeding(packing: &Packing) -> Vec<i64> {
-    let Packing { c, sizes, terms } = packing;
-    let exceeds = |t: &i64| sum_at(*t, *c, sizes) > terms * c;
-    packing.thresholds().into_iter().filter(exceeds).collect()
-}
-
 /// Rule 11 finds no plan in round 1, and rules 1 to 10 before it alter nothing.
 fn left_to_rule_11(year: &Year) -> bool {
     filter(year, Trap::None).0 == Answer::NoPlan { rule: 11, round: 1 }
-        && (1..=10).all(|rule| after(rule, year, Trap::None) == *year)
+        && years_before(year, 11) == [year.clone()]
+}
+
+/// Where rule 11 finds no plan in a year that is left to it: at one threshold alone.
+fn only_at(year: &Year) -> &'static str {
+    let c = largest_high_credits(year);
+    let over = exceeding_thresholds(year, c);
+    let ways = ways_of_rule_11(year);
+    match over[..] {
+        [_] if ways.contains(&ONLY_AT_HALF) => "c/2",
+        [_] if ways.contains(&ONLY_AT_A_TERM) => "a term's size",
+        [t] if course_sizes(year).contains(&t) && t < c / 2 => "a course's size",
+        _ => panic!("rule 11 exceeds at {over:?} in\n{}", of_year(year)),
+    }
 }
 
 #[test]
-fn rule_11_has_its_three_kinds_of_years() {
+fn rule_11_has_its_kinds_of_years() {
     let filtered = years_traced(Kind::Filtering);
-    let left: Vec<Packing> =
-        filtered.iter().filter(|year| left_to_rule_11(year)).map(Packing::of).collect();
-    let at_a_size = left.iter().filter(|packing| {
-        let over = exceeding(packing);
-        !over.is_empty() && over.iter().all(|t| packing.sizes.contains(t) && *t < packing.c / 2)
-    });
-    let only_half = left.iter().filter(|packing| {
-        let half = packing.c / 2;
-        exceeding(packing) == [half] && !packing.sizes.contains(&half)
-    });
-    assert_eq!((at_a_size.count(), only_half.count()), (1, 1));
-    let by_itself: Vec<Packing> =
-        years_traced(Kind::ByItself(11)).iter().map(Packing::of).collect();
-    let within =
-        |packing: &&Packing| exceeding(packing).is_empty() && packing.at_once() > packing.room();
-    assert_eq!(by_itself.iter().filter(within).count(), 1);
+    let left = filtered.iter().filter(|year| left_to_rule_11(year));
+    assert_eq!(left.map(only_at).collect::<Vec<_>>(), ["a course's size", "c/2"]);
+    let within_in_the_table = |year: &&Year| {
+        let c = largest_high_credits(year);
+        let room = year.terms.len() as i64 * c;
+        exceeding_thresholds(year, c).is_empty() && at_once(&sizes(year, c), c) > room
+    };
+    let by_itself = years_traced(Kind::ByItself(11));
+    assert_eq!(by_itself.iter().filter(within_in_the_table).count(), 1);
 }
 
 #[test]
 fn rows_8_and_9_of_the_table() {
-    let tables = on_the_page().into_iter().filter(|found| found.kind == Kind::Table);
     let mut rows = vec![];
-    for Traced { year, trace, .. } in tables {
-        let packing = Packing::of(&year);
-        assert_eq!(packing.c, 10);
-        let largest = (0..=5).map(|t| sum_at(t, 10, &packing.sizes)).max().unwrap();
-        let quotient = (largest + 9) / 10;
-        let verdict = format!("divided by 10, rounded up, {quotient} ");
+    for Traced { year, trace, .. } in traced_as(Kind::Table) {
+        let c = largest_high_credits(&year);
+        let quotient = largest_quotient_by_every_t(&sizes(&year, c), c);
+        let verdict = format!("divided by {c}, rounded up, {quotient} ");
         assert!(trace.contains(&verdict), "{trace}");
-        rows.push((packing.sizes, quotient));
+        assert_eq!((c, term_sizes(&year, c)), (10, vec![0, 0]));
+        rows.push((course_sizes(&year), quotient));
     }
-    assert_eq!(rows, [(vec![0, 0, 6, 6, 6], 3), (vec![0, 0, 5, 5, 5], 2)]);
+    assert_eq!(rows, [(vec![6, 6, 6], 3), (vec![5, 5, 5], 2)]);
+}
+
+/// The page says that a sum exceeds terms times c where the paper's quotient exceeds the
+/// number of terms, and that no sum is above the short-cut's.
+#[test]
+fn sums_without_division_and_at_once() {
+    let mut random = Random::new(12);
+    for _ in 0..20_000 {
+        let c = random.from(1, 20);
+        let sizes: Vec<i64> = (0..random.from(0, 8)).map(|_| random.from(0, c + 2)).collect();
+        let terms = random.from(1, 4);
+        for t in 0..=c / 2 {
+            let sum = sum_at(&sizes, c, t);
+            assert_eq!(sum > terms * c, quotient_at(&sizes, c, t, Trap::None) > terms);
+            assert!(sum <= at_once(&sizes, c), "{sizes:?}, c = {c}, t = {t}");
+        }
+    }
 }
 
 // ---- The test can fail ----
@@ -222,6 +226,7 @@ fn a_block_that_does_not_belong_is_found() {
     let trace = "```trace\nrule 1 by itself\nrule 1, term 0: p 0, P 0\n  nothing alters\n```\n";
     assert_eq!(fault(&format!("{year}\n{trace}")), None);
     for page in [
+        "no block".to_string(),
         year.to_string(),
         trace.to_string(),
         format!("{year}\n{year}\n{trace}"),
@@ -239,7 +244,7 @@ fn a_block_that_does_not_belong_is_found() {
 #[test]
 fn years_that_are_none() {
     let right = "T 0 0 4 0 3\nT 1 0 6 0 3\nC 0 4 0,1\n";
-    assert_eq!(text_of(&year_of(right).unwrap()), right);
+    assert_eq!(of_year(&year_of(right).unwrap()), right);
     for (part, wrong) in [
         ("T 1", "T 2"),
         ("T 1", "t 1"),
@@ -284,7 +289,7 @@ fn follow(year: &Year, trace: &str) -> Year {
         let (what, from) = what.rsplit_once(' ').unwrap();
         if let Some(course) = what.strip_prefix("course ") {
             let i: usize = course.split(' ').next().unwrap().parse().unwrap();
-            alter(&mut sheet.courses[i].list, list(from), list(to));
+            alter(&mut sheet.courses[i].list, list_of(from).unwrap(), list_of(to).unwrap());
         } else {
             let bound = bound(&mut sheet.terms[j], what);
             alter(bound, from.parse().unwrap(), to.split(':').next().unwrap().parse().unwrap());
@@ -296,10 +301,6 @@ fn follow(year: &Year, trace: &str) -> Year {
 fn alter<N: PartialEq + std::fmt::Debug>(number: &mut N, from: N, to: N) {
     assert_eq!(*number, from);
     *number = to;
-}
-
-fn list(text: &str) -> u32 {
-    text.split(',').map(|term| 1 << term.parse::<u32>().unwrap()).sum()
 }
 
 fn bound<'a>(term: &'a mut Term, what: &str) -> &'a mut i64 {
@@ -338,23 +339,6 @@ fn following_a_trace_leads_to_the_filtered_year() {
         [1, 2, 4, 5, 6, 7, 8, 9, 10, 11].iter().all(|&rule| no_plans[rule] > 0),
         "{no_plans:?}"
     );
-}
-
-#[test]
-fn a2s_thresholds_find_what_every_t_finds() {
-    let mut random = Random::new(12);
-    for _ in 0..20_000 {
-        let c = random.from(1, 20);
-        let sizes: Vec<i64> = (0..random.from(0, 8)).map(|_| random.from(0, c + 2)).collect();
-        let terms = random.from(1, 4);
-        let largest = (0..=c / 2).map(|t| sum_at(t, c, &sizes)).max().unwrap();
-        let packing = Packing { c, sizes, terms };
-        let tried = packing.thresholds();
-        assert!(tried.windows(2).all(|two| two[0] < two[1]), "{tried:?}");
-        assert!(tried.iter().all(|&t| t == c / 2 || packing.sizes.contains(&t)));
-        assert_eq!(packing.largest(), largest);
-        assert!(largest <= packing.at_once());
-    }
 }
 
 #[test]

@@ -30,8 +30,14 @@ fn what_sizes_count_for() {
     assert_eq!(sum_at(&[], 10, 3), 0);
 }
 
-/// The two forms agree on these sizes; the largest quotient.
+/// The two forms agree on these sizes; the largest quotient. The reason is seen too: a sum
+/// that is left out is at most the sum at the next threshold.
 fn agree(sizes: &[i64], c: i64) -> i64 {
+    let tried = thresholds(sizes, c);
+    for t in 0..=c / 2 {
+        let next = tried.iter().copied().find(|&next| next >= t).expect("c/2 is tried");
+        assert!(sum_at(sizes, c, t) <= sum_at(sizes, c, next), "{sizes:?}, c = {c}, t = {t}");
+    }
     let over_thresholds = largest_quotient(sizes, c, Trap::None);
     assert_eq!(over_thresholds, largest_quotient_by_every_t(sizes, c), "{sizes:?}, c = {c}");
     over_thresholds

@@ -1,5 +1,6 @@
 //! Year E, whole: its records and its listing.
 
+use independent::compare::of_hex;
 use independent::listing::of_list;
 use independent::plans;
 use independent::records;
@@ -23,9 +24,7 @@ fn records_of_e() -> Vec<u8> {
                 43 00 0004 0003 00000000000000000000
                 43 01 0003 0003 00000000000000000000
                 43 02 0002 0003 00000000000000000000";
-    let digits: Vec<char> = text.chars().filter(|c| !c.is_whitespace()).collect();
-    let byte = |two: &[char]| u8::from_str_radix(&two.iter().collect::<String>(), 16).unwrap();
-    digits.chunks(2).map(byte).collect()
+    of_hex(text).unwrap()
 }
 
 #[test]
