@@ -2,9 +2,6 @@
 //! from their text alone in the most literal form, so that a proved library can be
 //! compared with it.
 
-// `length % 16 == 0` is nearer to document 01's words, and older compilers know it.
-#![allow(clippy::manual_is_multiple_of)]
-
 pub mod compare;
 pub mod examples;
 pub mod filter;

@@ -220,10 +220,10 @@ impl Walk<'_> {
     /// high count.
     pub fn stops(&self) -> bool {
         let term = &self.year.terms[self.j];
-        let passes = |i: usize| self.credits + self.year.courses[i].weight > term.high_credits;
+        let passes = |&i: &usize| self.credits + self.year.courses[i].weight > term.high_credits;
         match self.rule {
             6 => self.credits >= term.low_credits,
-            7 => self.next_course().is_some_and(passes),
+            7 => self.next_course().filter(passes).is_some(),
             8 => self.count >= term.low_count,
             9 => self.count >= term.high_count,
             _ => panic!("rules 6 to 9 walk"),
