@@ -4,6 +4,7 @@
 
 use crate::filter::{filter, Answer};
 use crate::records::{bytes, RECORD};
+use crate::rules::{all_credits, large_p, number_fixed, number_open, small_p};
 use crate::traps::Trap;
 use crate::year::*;
 
@@ -385,29 +386,35 @@ pub fn edge(random: &mut Random) -> Year {
         .collect();
     let mut year = Year { terms: vec![], courses };
     for j in 0..terms {
-        let fixed = crate::rules::small_p(&year, j);
-        let possible = crate::rules::large_p(&year, j);
-        let count = crate::rules::number_fixed(&year, j);
-        let most_count = count + crate::rules::number_open(&year, j);
-        let (low_credits, high_credits, low_count, high_count) = match bounds {
-            0 => (0, MOST_CREDITS, 0, MOST_COUNT),
-            1 => (fixed, possible, count, most_count),
-            2 if random.percent(90) => (0, MOST_CREDITS, 0, MOST_COUNT),
-            _ => (
-                random.pick(&[0, 0, 0, 1, 63_999, 64_000]),
-                random.pick(&[0, 1, 63_999, 64_000, 64_000, 64_000]),
-                random.pick(&[0, 0, 0, 1, 63, 64]),
-                random.pick(&[0, 1, 63, 64, 64, 64]),
-            ),
-        };
-        year.terms.push(Term {
-            low_credits: low_credits.min(high_credits),
-            high_credits: high_credits.max(low_credits),
-            low_count: low_count.min(high_count),
-            high_count: high_count.max(low_count),
-        });
+        let term = edge_term(random, &year, j, bounds);
+        year.terms.push(term);
     }
     year
+}
+
+/// Bounds for term j in one of four ways: the widest, those that the lists allow, mostly
+/// the widest, or at the edges.
+fn edge_term(random: &mut Random, year: &Year, j: usize, way: usize) -> Term {
+    let (low_credits, high_credits, low_count, high_count) = match way {
+        0 => (0, MOST_CREDITS, 0, MOST_COUNT),
+        1 => {
+            let fixed = number_fixed(year, j);
+            (small_p(year, j), large_p(year, j), fixed, fixed + number_open(year, j))
+        }
+        2 if random.percent(90) => (0, MOST_CREDITS, 0, MOST_COUNT),
+        _ => (
+            random.pick(&[0, 0, 0, 1, 63_999, 64_000]),
+            random.pick(&[0, 1, 63_999, 64_000, 64_000, 64_000]),
+            random.pick(&[0, 0, 0, 1, 63, 64]),
+            random.pick(&[0, 1, 63, 64, 64, 64]),
+        ),
+    };
+    Term {
+        low_credits: low_credits.min(high_credits),
+        high_credits: high_credits.max(low_credits),
+        low_count: low_count.min(high_count),
+        high_count: high_count.max(low_count),
+    }
 }
 
 // ---- (d) Damaged lists ----
@@ -435,7 +442,6 @@ fn damage(random: &mut Random, list: &mut Vec<u8>) {
     }
     let records = list.len() / RECORD;
     let start = RECORD * random.below(records);
-    let is_term = list[start] == 0x54;
     match random.below(11) {
         0 => list[start] = random.pick(&[0x54, 0x43, 0x54, 0x43, 0, 0x74, 0x63, 0xFF]),
         1 => {
@@ -448,6 +454,29 @@ fn damage(random: &mut Random, list: &mut Vec<u8>) {
                 list.swap(start + at, other + at);
             }
         }
+        number @ 3..=6 => damage_number(random, list, start, number),
+        7 | 8 => {
+            let first_zero = if list[start] == 0x54 { 10 } else { 6 };
+            let at = start + random.from(first_zero, 15) as usize;
+            list[at] = random.pick(&[1, 0x80, 0xFF]);
+        }
+        9 => {
+            let cut = random.pick(&[1, 8, 15, 16, 32, 48]).min(list.len());
+            if random.percent(30) {
+                list.drain(..cut);
+            } else {
+                list.truncate(list.len() - cut);
+            }
+        }
+        _ => lengthen(random, list, start),
+    }
+}
+
+/// Damage to the numbers of two bytes in the record that starts here, in one of four ways:
+/// credits or weight, counts or list, bounds crossed or list, list.
+fn damage_number(random: &mut Random, list: &mut [u8], start: usize, way: usize) {
+    let is_term = list[start] == 0x54;
+    match way {
         3 if is_term => {
             let at = start + random.pick(&[2, 4]);
             put(list, at, random.pick(&[64_001, 65_535, 64_000, 0]));
@@ -465,33 +494,22 @@ fn damage(random: &mut Random, list: &mut Vec<u8>) {
             put(list, start + low, large as u16);
             put(list, start + high, small as u16);
         }
-        5 | 6 => {
+        _ => {
             let terms = list.chunks(RECORD).filter(|record| record[0] == 0x54).count();
             let next = if terms < 16 { 1u32 << terms } else { 0 };
             put(list, start + 4, random.pick(&[0, next as u16, next as u16 | 1, 0x8000]));
         }
-        7 | 8 => {
-            let first_zero = if is_term { 10 } else { 6 };
-            let at = start + random.from(first_zero, 15) as usize;
-            list[at] = random.pick(&[1, 0x80, 0xFF]);
-        }
-        9 => {
-            let cut = random.pick(&[1, 8, 15, 16, 32, 48]).min(list.len());
-            if random.percent(30) {
-                list.drain(..cut);
-            } else {
-                list.truncate(list.len() - cut);
-            }
-        }
-        _ => {
-            let extra = random.pick(&[1, 8, 15, 16, 16, 32]);
-            if random.percent(50) && extra % RECORD == 0 {
-                let again = list[start..start + RECORD].to_vec();
-                list.extend(again.repeat(extra / RECORD));
-            } else {
-                list.extend((0..extra).map(|_| random.pick(&[0, 0x54, 0x43, 1])));
-            }
-        }
+    }
+}
+
+/// Bytes behind the list: the record that starts here again, or others.
+fn lengthen(random: &mut Random, list: &mut Vec<u8>, start: usize) {
+    let extra = random.pick(&[1, 8, 15, 16, 16, 32]);
+    if random.percent(50) && extra % RECORD == 0 {
+        let again = list[start..start + RECORD].to_vec();
+        list.extend(again.repeat(extra / RECORD));
+    } else {
+        list.extend((0..extra).map(|_| random.pick(&[0, 0x54, 0x43, 1])));
     }
 }
 
@@ -555,27 +573,12 @@ fn near_valid(random: &mut Random) -> Vec<u8> {
         let number = if place < terms { place } else { place - terms };
         let number = if random.percent(faulty) { random.below(70) } else { number };
         let mut record = vec![if is_term { 0x54 } else { 0x43 }, number as u8];
-        if is_term {
-            let (low_credits, high_credits) = pair(random, 0, 300);
-            let (low_count, high_count) = pair(random, 0, 64);
-            let low_credits = if from_zero { 0 } else { low_credits };
-            let low_count = if from_zero { 0 } else { low_count };
-            for number in [low_credits, high_credits, low_count, high_count] {
-                let number = if random.percent(faulty) { random.from(0, 65_535) } else { number };
-                record.extend((number as u16).to_be_bytes());
-            }
+        let numbers = if is_term {
+            near_bounds(random, faulty, from_zero)
         } else {
-            let weight =
-                if random.percent(faulty) { random.from(0, 1_100) } else { random.from(1, 60) };
-            let known = random.percent(100 - faulty);
-            let list = if known && terms > 0 {
-                some_list(random, terms.min(16))
-            } else {
-                random.draw() as u32
-            };
-            record.extend((weight as u16).to_be_bytes());
-            record.extend((list as u16).to_be_bytes());
-        }
+            near_course(random, faulty, terms)
+        };
+        record.extend(numbers.into_iter().flat_map(|number| (number as u16).to_be_bytes()));
         record.resize(RECORD, 0);
         if random.percent(faulty) {
             let at = random.below(RECORD);
@@ -587,6 +590,27 @@ fn near_valid(random: &mut Random) -> Vec<u8> {
         list.truncate(random.below(list.len() + 1));
     }
     list
+}
+
+/// The four bounds of a term record, each mostly right.
+fn near_bounds(random: &mut Random, faulty: u64, from_zero: bool) -> Vec<i64> {
+    let (low_credits, high_credits) = pair(random, 0, 300);
+    let (low_count, high_count) = pair(random, 0, 64);
+    let low = |bound: i64| if from_zero { 0 } else { bound };
+    let bounds = [low(low_credits), high_credits, low(low_count), high_count];
+    bounds
+        .into_iter()
+        .map(|bound| if random.percent(faulty) { random.from(0, 65_535) } else { bound })
+        .collect()
+}
+
+/// The weight and the list of a course record, each mostly right.
+fn near_course(random: &mut Random, faulty: u64, terms: usize) -> Vec<i64> {
+    let weight = if random.percent(faulty) { random.from(0, 1_100) } else { random.from(1, 60) };
+    let known = random.percent(100 - faulty);
+    let list =
+        if known && terms > 0 { some_list(random, terms.min(16)) } else { random.draw() as u32 };
+    vec![weight, list as i64]
 }
 
 // ---- (f) Placed years, to be measured ----
@@ -658,8 +682,8 @@ fn equal_or_nearly(random: &mut Random, terms: usize) -> Vec<Course> {
 /// Bounds that the placing of a settled year meets, each with up to this much slack.
 fn bound_the_placing(random: &mut Random, year: &mut Year, credit_slack: i64, count_slack: i64) {
     for j in 0..year.terms.len() {
-        let credits = crate::rules::small_p(year, j);
-        let count = crate::rules::number_fixed(year, j);
+        let credits = small_p(year, j);
+        let count = number_fixed(year, j);
         year.terms[j] = Term {
             low_credits: (credits - random.from(0, credit_slack)).max(0),
             high_credits: (credits + random.from(0, credit_slack)).min(MOST_CREDITS),
@@ -673,8 +697,8 @@ fn bound_the_placing(random: &mut Random, year: &mut Year, credit_slack: i64, co
 fn tighten_past_the_placing(random: &mut Random, year: &mut Year) {
     loop {
         let j = random.below(year.terms.len());
-        let credits = crate::rules::small_p(year, j);
-        let count = crate::rules::number_fixed(year, j);
+        let credits = small_p(year, j);
+        let count = number_fixed(year, j);
         let term = &mut year.terms[j];
         match random.below(4) {
             0 if credits < MOST_CREDITS => {
@@ -782,7 +806,7 @@ fn heavy(random: &mut Random, c: i64, t: i64) -> i64 {
 /// Credits that fit beside all courses.
 fn room(year: &Year) -> i64 {
     let high: i64 = year.terms.iter().map(|term| term.high_credits).sum();
-    high - crate::rules::all_credits(year)
+    high - all_credits(year)
 }
 
 /// Too much at t, where there is room for it beside the heavy courses (else rule 2 would

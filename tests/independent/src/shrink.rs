@@ -40,56 +40,75 @@ fn candidates(year: &Year) -> Vec<Year> {
         found.push(next);
     }
     for i in 0..year.courses.len() {
+        found.extend(with_less_of_course(year, i));
+    }
+    found.extend(with_fewer_credits(year));
+    found.extend(some_lighter(year));
+    for j in 0..year.terms.len() {
+        found.extend(with_less_of_term(year, j));
+    }
+    found
+}
+
+/// Course i with a term less, and lighter.
+fn with_less_of_course(year: &Year, i: usize) -> Vec<Year> {
+    let mut found = vec![];
+    for j in 0..year.terms.len() {
+        let mut next = year.clone();
+        next.courses[i].list &= !(1 << j);
+        found.push(next);
+    }
+    for less in 1..=3 {
+        let mut next = year.clone();
+        next.courses[i].weight -= less;
+        found.push(next.clone());
+        // A lighter course with the credit bounds of one term following it.
         for j in 0..year.terms.len() {
-            let mut next = year.clone();
-            next.courses[i].list &= !(1 << j);
-            found.push(next);
-        }
-        for less in 1..=3 {
-            let mut next = year.clone();
-            next.courses[i].weight -= less;
-            found.push(next.clone());
-            // A lighter course with the credit bounds of one term following it.
-            for j in 0..year.terms.len() {
-                let mut follows = next.clone();
-                follows.terms[j].low_credits = (follows.terms[j].low_credits - less).max(0);
-                follows.terms[j].high_credits -= less;
-                found.push(follows);
-            }
+            let mut follows = next.clone();
+            follows.terms[j].low_credits = (follows.terms[j].low_credits - less).max(0);
+            follows.terms[j].high_credits -= less;
+            found.push(follows);
         }
     }
-    // All numbers of credits halved or one less together.
-    for (over, less) in [(2, 0), (1, 1)] {
+    found
+}
+
+/// All numbers of credits halved, and one less together.
+fn with_fewer_credits(year: &Year) -> Vec<Year> {
+    let fewer = |(over, less): (i64, i64)| {
         let mut next = year.clone();
         next.courses.iter_mut().for_each(|c| c.weight = ((c.weight - less) / over).max(1));
         next.terms.iter_mut().for_each(|t| {
             t.low_credits = ((t.low_credits - less) / over).max(0);
             t.high_credits = ((t.high_credits - less) / over).max(0);
         });
-        found.push(next);
-    }
-    found.extend(some_lighter(year));
-    for j in 0..year.terms.len() {
-        for part in 0..6 {
-            for less in [64, 8, 3, 2, 1] {
-                let mut next = year.clone();
-                let term = &mut next.terms[j];
-                match part {
-                    0 => term.low_credits = (term.low_credits - less).max(0),
-                    1 => term.high_credits = (term.high_credits - less).max(term.low_credits),
-                    2 => term.low_count = (term.low_count - less).max(0),
-                    3 => term.high_count = (term.high_count - less).max(term.low_count),
-                    4 => {
-                        term.low_credits -= less;
-                        term.high_credits -= less;
-                    }
-                    _ => {
-                        term.low_count -= less;
-                        term.high_count -= less;
-                    }
+        next
+    };
+    [(2, 0), (1, 1)].into_iter().map(fewer).collect()
+}
+
+/// Term j with lower bounds: each alone, and each pair together.
+fn with_less_of_term(year: &Year, j: usize) -> Vec<Year> {
+    let mut found = vec![];
+    for part in 0..6 {
+        for less in [64, 8, 3, 2, 1] {
+            let mut next = year.clone();
+            let term = &mut next.terms[j];
+            match part {
+                0 => term.low_credits = (term.low_credits - less).max(0),
+                1 => term.high_credits = (term.high_credits - less).max(term.low_credits),
+                2 => term.low_count = (term.low_count - less).max(0),
+                3 => term.high_count = (term.high_count - less).max(term.low_count),
+                4 => {
+                    term.low_credits -= less;
+                    term.high_credits -= less;
                 }
-                found.push(next);
+                _ => {
+                    term.low_count -= less;
+                    term.high_count -= less;
+                }
             }
+            found.push(next);
         }
     }
     found

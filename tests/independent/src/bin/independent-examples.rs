@@ -2,8 +2,8 @@
 //! and prints them in markdown. Arguments: years to try for each (default 200,000)
 //! and a seed (default 1).
 
-use independent::compare::hex;
-use independent::filter::{filter, filter_by, run_rule, Answer, IN_ORDER};
+use independent::compare::{hex, ways_of_rule_11, BY_P};
+use independent::filter::{filter, filter_by, run_rule, run_step, Answer, IN_ORDER};
 use independent::generate::{crowded, small, spoil, Random};
 use independent::listing::{of_answer, terms_with_commas};
 use independent::plans;
@@ -41,63 +41,86 @@ fn main() {
     }
 }
 
+/// In the order of the page; the place of each is part of its seed.
 fn all_wanted() -> Vec<Wanted> {
-    let mut all = vec![];
-    for rule in [1, 2] {
-        all.push(no_plan_by(rule));
-    }
-    all.push(Wanted {
-        title: "Rule 3 strikes, and the answer differs without rule 3".into(),
-        others: vec![all_but(3)],
-        trap: Trap::None,
-        shows: Box::new(|year| word_needs(year, 3) && rule_3_does(year) == (true, false)),
-    });
-    all.push(Wanted {
-        title: "Rule 3 fixes, and the answer differs without rule 3".into(),
-        others: vec![all_but(3)],
-        trap: Trap::None,
-        shows: Box::new(|year| word_needs(year, 3) && rule_3_does(year) == (false, true)),
-    });
-    for rule in 4..=10 {
-        all.push(no_plan_by(rule));
-    }
-    for strikes in [true, false] {
-        let does = if strikes { "strikes" } else { "fixes" };
-        all.push(Wanted {
-            title: format!("Rule 10 {does}, and without rule 10 the listing differs"),
-            others: vec![all_but(10)],
-            trap: Trap::None,
-            shows: Box::new(move |year| {
-                !is_no_plan(year)
-                    && rule_10_does(year) == (strikes, !strikes)
-                    && filter(year, Trap::None) != without(year, 10)
-            }),
-        });
-    }
-    all.push(Wanted {
-        title: "Rule 11 finds no plan by a term whose p exceeds high credits".into(),
+    let mut all: Vec<Wanted> = [1, 2].into_iter().map(no_plan_by).collect();
+    all.extend([true, false].map(rule_3_that));
+    all.extend((4..=10).map(no_plan_by));
+    all.extend([true, false].map(rule_10_that));
+    all.extend([true, false].map(no_plan_by_rule_11));
+    all.push(trap_1());
+    all.push(trap_1_by_orders());
+    all.extend(other_traps());
+    all
+}
+
+fn no_plan_by(rule: u8) -> Wanted {
+    Wanted {
+        title: format!("Rule {rule} finds no plan"),
         others: vec![],
         trap: Trap::None,
-        shows: Box::new(|year| finds_no_plan(year, 11) && p_exceeds_at_rule_11(year)),
-    });
-    all.push(Wanted {
-        title: "Rule 11 finds no plan by its quotient".into(),
+        shows: Box::new(move |year| finds_no_plan(year, rule)),
+    }
+}
+
+fn rule_3_that(strikes: bool) -> Wanted {
+    Wanted {
+        title: format!("Rule 3 {}, and the answer differs without rule 3", verb(strikes)),
+        others: vec![all_but(3)],
+        trap: Trap::None,
+        shows: Box::new(move |year| word_needs(year, 3) && does(year, 3) == (strikes, !strikes)),
+    }
+}
+
+fn rule_10_that(strikes: bool) -> Wanted {
+    Wanted {
+        title: format!("Rule 10 {}, and without rule 10 the listing differs", verb(strikes)),
+        others: vec![all_but(10)],
+        trap: Trap::None,
+        shows: Box::new(move |year| {
+            !is_no_plan(year)
+                && does(year, 10) == (strikes, !strikes)
+                && filter(year, Trap::None) != without(year, 10)
+        }),
+    }
+}
+
+fn verb(strikes: bool) -> &'static str {
+    if strikes {
+        "strikes"
+    } else {
+        "fixes"
+    }
+}
+
+fn no_plan_by_rule_11(by_p: bool) -> Wanted {
+    let by = if by_p { "a term whose p exceeds high credits" } else { "its quotient" };
+    Wanted {
+        title: format!("Rule 11 finds no plan by {by}"),
         others: vec![],
         trap: Trap::None,
-        shows: Box::new(|year| finds_no_plan(year, 11) && !p_exceeds_at_rule_11(year)),
-    });
-    all.push(Wanted {
+        shows: Box::new(move |year| {
+            finds_no_plan(year, 11) && ways_of_rule_11(year).contains(&BY_P) == by_p
+        }),
+    }
+}
+
+fn trap_1() -> Wanted {
+    Wanted {
         title: "Trap 1: rule 6 on a year that rule 4 has not passed".into(),
         others: vec![],
         trap: Trap::SpareBelowZero,
         shows: Box::new(|year| {
             finds_no_plan(year, 4) && shows_trap(year, Trap::SpareBelowZero) && spare_slips(year)
         }),
-    });
+    }
+}
+
+fn trap_1_by_orders() -> Wanted {
     let exchanged = vec![1, 2, 3, 6, 5, 4, 7, 8, 9, 10, 11];
     let behind = vec![1, 2, 3, 6, 4, 5, 7, 8, 9, 10, 11];
     let orders = vec![exchanged, behind];
-    all.push(Wanted {
+    Wanted {
         title: "Trap 1 again, with rules 4 and 6 in other orders".into(),
         others: orders.clone(),
         trap: Trap::SpareBelowZero,
@@ -106,8 +129,15 @@ fn all_wanted() -> Vec<Wanted> {
             shows_trap(year, Trap::SpareBelowZero)
                 && orders.iter().all(|order| filter_by(year, order, Trap::None) != right)
         }),
-    });
-    for (title, trap, how) in [
+    }
+}
+
+fn other_traps() -> Vec<Wanted> {
+    let wanted = |(title, trap, how): (&str, Trap, Differs)| {
+        let shows = move |year: &Year| differs(filter(year, Trap::None), filter(year, trap), how);
+        Wanted { title: title.into(), others: vec![], trap, shows: Box::new(shows) }
+    };
+    let traps = [
         (
             "Trap 2: a course taken without charging every other term",
             Trap::ChargeOneTerm,
@@ -129,11 +159,8 @@ fn all_wanted() -> Vec<Wanted> {
             Differs::Word,
         ),
         ("Trap 9: sizes above c/2 tried in rule 11", Trap::SizesAboveHalf, Differs::Word),
-    ] {
-        let shows = move |year: &Year| differs(filter(year, Trap::None), filter(year, trap), how);
-        all.push(Wanted { title: title.into(), others: vec![], trap, shows: Box::new(shows) });
-    }
-    all
+    ];
+    traps.into_iter().map(wanted).collect()
 }
 
 // ---- What a year shows ----
@@ -155,15 +182,6 @@ fn differs(right: (Answer, Year), wrong: (Answer, Year), how: Differs) -> bool {
             _ => false,
         },
         Differs::Year => word(right.0) == word(wrong.0) && right.1 != wrong.1,
-    }
-}
-
-fn no_plan_by(rule: u8) -> Wanted {
-    Wanted {
-        title: format!("Rule {rule} finds no plan"),
-        others: vec![],
-        trap: Trap::None,
-        shows: Box::new(move |year| finds_no_plan(year, rule)),
     }
 }
 
@@ -196,6 +214,11 @@ fn without(year: &Year, rule: u8) -> (Answer, Year) {
     filter_by(year, &all_but(rule), Trap::None)
 }
 
+/// The rules that come before one.
+fn all_before(rule: u8) -> Vec<u8> {
+    IN_ORDER.into_iter().filter(|&other| other < rule).collect()
+}
+
 /// The rules in order, one left out.
 fn all_but(rule: u8) -> Vec<u8> {
     IN_ORDER.into_iter().filter(|&other| other != rule).collect()
@@ -216,56 +239,24 @@ fn before_rule(year: &Year, rules: &[u8]) -> Option<Year> {
 
 /// Whether a rule strikes and whether it fixes in round 1: a list of several terms
 /// that falls to one by a strike counts as a strike.
-fn rule_3_does(year: &Year) -> (bool, bool) {
-    let mut now = match before_rule(year, &[1, 2]) {
-        Some(now) => now,
-        None => return (false, false),
-    };
+fn does(year: &Year, rule: u8) -> (bool, bool) {
     let (mut strikes, mut fixes) = (false, false);
+    let mut now = match before_rule(year, &all_before(rule)) {
+        Some(now) => now,
+        None => return (strikes, fixes),
+    };
     for j in 0..now.terms.len() {
         let was = now.clone();
-        if rules::rule_3(&mut now, j, Trap::None).is_err() {
+        if run_step(&mut now, rule, j, Trap::None).is_err() {
             break;
         }
-        note_changes(&was, &now, j, &mut strikes, &mut fixes);
-    }
-    (strikes, fixes)
-}
-
-fn rule_10_does(year: &Year) -> (bool, bool) {
-    let mut now = match before_rule(year, &[1, 2, 3, 4, 5, 6, 7, 8, 9]) {
-        Some(now) => now,
-        None => return (false, false),
-    };
-    let (mut strikes, mut fixes) = (false, false);
-    for j in 0..now.terms.len() {
-        let was = now.clone();
-        if rules::rule_10(&mut now, j).is_err() {
-            break;
-        }
-        note_changes(&was, &now, j, &mut strikes, &mut fixes);
-    }
-    (strikes, fixes)
-}
-
-fn note_changes(was: &Year, now: &Year, j: usize, strikes: &mut bool, fixes: &mut bool) {
-    for (a, b) in was.courses.iter().zip(&now.courses) {
-        if a.list != b.list {
-            if b.lists(j) {
-                *fixes = true;
-            } else {
-                *strikes = true;
-            }
+        for (i, course) in now.courses.iter().enumerate() {
+            let altered = was.courses[i] != *course;
+            strikes |= altered && !course.lists(j);
+            fixes |= altered && course.lists(j);
         }
     }
-}
-
-fn p_exceeds_at_rule_11(year: &Year) -> bool {
-    let now = match before_rule(year, &[1, 2, 3, 4, 5, 6, 7, 8, 9, 10]) {
-        Some(now) => now,
-        None => return false,
-    };
-    rules::term_over(&now).is_some()
+    (strikes, fixes)
 }
 
 /// Without rule 4, rule 6 of round 1 goes through on a year with a spare below 0,
@@ -286,11 +277,8 @@ fn spare_slips(year: &Year) -> bool {
 fn guarded_walk_reaches(year: &Year, j: usize) -> bool {
     let mut spares = rules::spares(year, j);
     let mut credits = rules::small_p(year, j);
-    let mut courses = rules::open(year, j);
-    courses.sort_by_key(|&i| (-year.courses[i].weight, i));
-    for i in courses {
-        let others: Vec<usize> =
-            (0..year.terms.len()).filter(|&k| k != j && year.courses[i].lists(k)).collect();
+    for i in rules::from_heaviest(year, j) {
+        let others = rules::other_terms(year, i, j);
         if credits >= year.terms[j].low_credits {
             break;
         }
