@@ -62,7 +62,8 @@ row9 : largestQuotient (three 5) ≡ 2
 unfolding computing
 row9 = refl
 
--- ---- rule 11 at the sizes that occur (request A2). Which of them exceed: a course's, a term's, c/2
+-- ---- rule 11 at the sizes that occur (request A2). Which of them exceed: a course's, a term's, c/2. The first three years are
+-- those of docs/RULES.md
 
 abbrev pub exceeding : Year → List Bool
 exceeding y = any (y .courses) (courseTried y (room y)) ∷ any (y .terms) (termTried y (room y)) ∷ bursts y (room y) (room y / 2) ∷ []
@@ -83,11 +84,11 @@ at-half : exceeding atHalf ≡ false ∷ false ∷ true ∷ []
 unfolding computing
 at-half = refl
 
--- sizes 5, 5, 9, 1, 9 and 4, 0, 0, c = 12: at 4, a term's size, they count for 38, and terms times c are 36
+-- sizes 8, 8, 4, 4, 1 and 3, 0, 0, c = 10: at 3, a term's size, they count for 31, and terms times c are 30
 abbrev pub atATermsSize : Year
 atATermsSize =
-    yearOf (termOf 0 8 0 2 ∷ termOf 0 12 0 2 ∷ termOf 0 12 0 2 ∷ [])
-    (courseOf 5 3 ∷ courseOf 5 3 ∷ courseOf 9 6 ∷ courseOf 1 5 ∷ courseOf 9 6 ∷ [])
+    yearOf (termOf 8 10 3 3 ∷ termOf 8 10 1 2 ∷ termOf 8 10 1 2 ∷ [])
+    (courseOf 3 1 ∷ courseOf 8 6 ∷ courseOf 8 6 ∷ courseOf 4 7 ∷ courseOf 4 7 ∷ courseOf 1 7 ∷ [])
 
 at-a-terms-size : exceeding atATermsSize ≡ false ∷ true ∷ false ∷ []
 unfolding computing
