@@ -1,6 +1,6 @@
 -- The thresholds that occur, over sizes in arrays: one after another in the order of the courses, with what is still to come.
 use Prim.Native.Nat.{ℕ, zero, suc, _+_, _-_, _/_, _≤_, _<_}
-use mathlib.Core.Bool.{Bool, true, false, not, _&&_, _||_, true≢false}
+use mathlib.Core.Bool.{Bool, true, false, not, _&&_, _||_, and-false, true≢false}
 use mathlib.Core.List.{List}
 use mathlib.Core.Logic.{_⊎_, inl, inr}
 use mathlib.Core.Path.{_≡_, refl, sym, ap, _∙_, subst, fun-ext}
@@ -10,7 +10,7 @@ use lib.Dec.{leb, ltb}
 use lib.ListN.{length, getD}
 use borrow.Author.Tests.{lt-ltb, le-ltb, ltb-true, le-leb, lt-leb, leb-true}
 use Rattle.theory.specs.Sum.{pick, sum}
-use Rattle.theory.proofs.SumLaws.{sum-more, sum-cong, sum-zero}
+use Rattle.theory.proofs.SumLaws.{sum-more, sum-cong, sum-behind, sum-front}
 use Rattle.theory.specs.Tests.{any}
 use Rattle.theory.proofs.TestLaws.{and-true, and-of, any-none, any-false, any-of}
 use Rattle.theory.specs.Packing.{share}
@@ -19,10 +19,6 @@ use Rattle.theory.proofs.ThresholdLaws.{thresholds-that-occur}
 use Rattle.packing.specs.Sizes.{sizeAt, shareAt, shareSum, over}
 use Rattle.packing.specs.Thresholds.{Rising, fromAt, fromSum, tried, courseExceeds, termExceeds}
 use Rattle.packing.proofs.SizeLaws.{share-pick, none-more}
-
-and-none : (x : Bool) → x && false ≡ false
-and-none true = refl
-and-none false = refl
 
 -- ---- one threshold
 
@@ -35,7 +31,7 @@ module _ (a b : List ℕ) (c limit : ℕ) where
   tried-over t l e = and-of (leb t (c / 2)) (over a b c limit t) (le-leb t (c / 2) l) e
 
   pub tried-within : (t : ℕ) → over a b c limit t ≡ false → tried a b c limit t ≡ false
-  tried-within t e = ap (λ o. leb t (c / 2) && o) e ∙ and-none (leb t (c / 2))
+  tried-within t e = ap (λ o. leb t (c / 2) && o) e ∙ and-false (leb t (c / 2))
 
   pub not-tried : (t : ℕ) → c / 2 < t → tried a b c limit t ≡ false
   not-tried t l = ap (λ e. e && over a b c limit t) (lt-leb t (c / 2) l)
@@ -84,25 +80,6 @@ from-counts x c t h top l = sum-cong (length x) (fromAt x t) (shareAt x c t) (λ
     each : (s : ℕ) → s ≤ h → Dec (s < t) → pick (not (ltb s t)) s ≡ share c t s
     each s q (yes k) = ap (λ e. pick (not e) s) (lt-ltb s t k) ∙ sym (share-small c t s (omega arith) k)
     each s q (no k) = ap (λ e. pick (not e) s) (le-ltb s t (omega (arith, k))) ∙ sym (share-mid c t s (omega arith) (omega (arith, k)))
-
--- a sum of which the first r are left out
-sum-behind : (n r : ℕ) (f g : ℕ → ℕ) → r ≤ n → ((q : ℕ) → q < r → g q ≡ 0) → ((q : ℕ) → r ≤ q → q < n → g q ≡ f q) → sum n g + sum r f ≡ sum n f
-unfolding sum
-sum-behind zero r f g l none same = let e : r ≡ 0 = omega arith in omega (arith, ap (λ k. sum k f) e)
-sum-behind (suc n) r f g l none same = go (ℕ-discrete r (suc n)) (λ h. sum-behind n r f g h none (λ q k m. same q k (omega arith)))
-  where
-    go : Dec (r ≡ suc n) → (r ≤ n → sum n g + sum r f ≡ sum n f) → sum n g + g n + sum r f ≡ sum n f + f n
-    go (yes e) ih = omega (arith, sum-zero n g (λ q h. none q (omega arith)), none n (omega arith), ap (λ k. sum k f) e)
-    go (no d) ih = omega (arith, ih (omega (arith, d)), same n (omega (arith, d)) (omega arith))
-
-sum-front : (n r : ℕ) (f : ℕ → ℕ) → r ≤ n → sum r f ≤ sum n f
-sum-front n r f l =
-    omega (
-      arith,
-      sum-behind n r f (λ q. pick (not (ltb q r)) (f q)) l
-          (λ q h. ap (λ t. pick (not t) (f q)) (lt-ltb q r h))
-          (λ q h m. ap (λ t. pick (not t) (f q)) (le-ltb q r h)),
-    )
 
 -- ---- in the order of the courses
 
@@ -188,7 +165,7 @@ module _ (a b o : List ℕ) (c limit : ℕ) where
       }
         where
           fails : courseExceeds a b c limit (getD o r 0) ≡ false
-          fails = ap (λ t. ltb 0 (sizeIn r) && t) (tried-within a b c limit (sizeIn r) e) ∙ and-none (ltb 0 (sizeIn r))
+          fails = ap (λ t. ltb 0 (sizeIn r) && t) (tried-within a b c limit (sizeIn r) e) ∙ and-false (ltb 0 (sizeIn r))
 
           go : (q : ℕ) → Dec (q ≡ r) → q < r + 1 → sizeIn q ≤ c / 2 → sizeIn q ≤ sizeIn r
           go q (yes d) h half = omega (arith, ap sizeIn d)
@@ -206,7 +183,7 @@ module _ (a b o : List ℕ) (c limit : ℕ) where
       }
         where
           fails : Dec (c / 2 < sizeIn r) → (sizeIn r ≡ 0) ⊎ (last ≤ sizeIn r) → courseExceeds a b c limit (getD o r 0) ≡ false
-          fails (yes k) q = ap (λ t. ltb 0 (sizeIn r) && t) (not-tried a b c limit (sizeIn r) k) ∙ and-none (ltb 0 (sizeIn r))
+          fails (yes k) q = ap (λ t. ltb 0 (sizeIn r) && t) (not-tried a b c limit (sizeIn r) k) ∙ and-false (ltb 0 (sizeIn r))
           fails (no k) (inl e) = ap (λ x. ltb 0 x && tried a b c limit x) e
           fails (no k) (inr e) = ap (λ x. ltb 0 x && tried a b c limit x) (same (decLt last (sizeIn r))) ∙ p .last-none
             where

@@ -4,13 +4,12 @@ use mathlib.Core.Bool.{Bool, true, false, _||_, true≢false}
 use mathlib.Core.Logic.{_↔_}
 use mathlib.Core.Path.{_≡_, refl, sym, ap, subst, _∙_}
 use native.Mathlib.Omega.{arith}
-use native.Mathlib.Decide.{decLt}
 use lib.Dec.{eqb, leb, ltb}
 use lib.Seq.{set-getD}
-use borrow.Author.Tests.{eqb-true, leb-false, ltb-false, eq-eqb, lt-ltb, le-ltb}
+use borrow.Author.Tests.{eqb-true, leb-false, ltb-false, eq-eqb}
 use Rattle.theory.specs.Choice.{choose}
 use Rattle.theory.proofs.ChoiceLaws.{choose-case}
-use Rattle.theory.proofs.TestLaws.{or-false}
+use Rattle.theory.proofs.TestLaws.{or-false, same-less}
 use Rattle.theory.specs.Bits.{has}
 use Rattle.theory.proofs.BitLaws.{has-power}
 use Rattle.year.specs.Year.{zeroCourse, termAt, courseAt, list, lists, isFixed, withList, lowCredits, highCredits, lowCount, highCount, withTerm, placed, struck}
@@ -77,25 +76,16 @@ tight-narrows y n j w s l due tighter plans still =
     (λ e. when-done y n (withTerm y j (w .term)) (uncrossed-narrower y j w s l tighter c) plans (rw (due, c)))
     (λ e. when-done y n y (narrower-self y s) (λ p. (λ h. (h, still e p h), λ h. h .0)) (rw (due, c))))
 
-same-test : (a b c d : ℕ) → (a < b → c < d) → (c < d → a < b) → ltb a b ≡ ltb c d
-same-test a b c d f g = go (decLt c d)
-  where
-    go : Dec (c < d) → ltb a b ≡ ltb c d
-    go (yes h) = lt-ltb a b (g h) ∙ sym (lt-ltb c d h)
-    go (no h) =
-        let n : a < b → ⊥ = λ q. h (f q) in
-        le-ltb a b (omega arith) ∙ sym (le-ltb c d (omega arith))
-
 -- a low bound raised to v crosses the high bound exactly if v passes it, and is as it was only if it is v or more; and so lowered
 module _ (low high v : ℕ) where
   raise-crossed : low ≤ high → ltb (min high high) (max low v) ≡ ltb high v
-  raise-crossed h = same-test (min high high) (max low v) high v (λ q. omega arith) (λ q. omega arith)
+  raise-crossed h = same-less (min high high) (max low v) high v (λ q. omega arith) (λ q. omega arith)
 
   raise-still : ltb low v || ltb high high ≡ false → v ≤ low
   raise-still e = ltb-false low v (or-false (ltb low v) (ltb high high) e .0)
 
   lower-crossed : low ≤ high → ltb (min high v) (max low low) ≡ ltb v low
-  lower-crossed h = same-test (min high v) (max low low) v low (λ q. omega arith) (λ q. omega arith)
+  lower-crossed h = same-less (min high v) (max low low) v low (λ q. omega arith) (λ q. omega arith)
 
   lower-still : ltb low low || ltb v high ≡ false → high ≤ v
   lower-still e = ltb-false v high (or-false (ltb low low) (ltb v high) e .1)

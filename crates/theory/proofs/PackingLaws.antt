@@ -7,9 +7,9 @@ use Prim.Native.Nat.{ℕ, zero, suc, _+_, _-_, _*_, _/_, _≤_, _<_}
 use native.Mathlib.Omega.{arith}
 use native.Mathlib.Decide.{decLt}
 use lib.Dec.{eqb, ltb}
-use borrow.Author.Tests.{lt-ltb, le-ltb, ltb-true}
+use borrow.Author.Tests.{lt-ltb, le-ltb}
 use Rattle.theory.specs.Sum.{pick, sum}
-use Rattle.theory.proofs.TestLaws.{same-tests}
+use Rattle.theory.proofs.TestLaws.{same-less}
 use Rattle.theory.proofs.SumLaws.{sum-cong, sum-add, sum-swap, sum-point, sum-le-mul}
 use Rattle.theory.proofs.LoadLaws.{load}
 use Rattle.theory.specs.Packing.{share}
@@ -115,4 +115,4 @@ ceiling c m x h =
     (λ q. let r : suc m * c ≤ x + (c - 1) = le-div-iff-mul-le h .0 q in omega arith, λ q. le-div-iff-mul-le h .1 (omega arith))
 
 pub ceiling-test : (c m x : ℕ) → 0 < c → ltb m ((x + (c - 1)) / c) ≡ ltb (m * c) x
-ceiling-test c m x h = same-tests _ _ (λ e. lt-ltb (m * c) x (ceiling c m x h .0 (ltb-true m ((x + (c - 1)) / c) e))) (λ e. lt-ltb m ((x + (c - 1)) / c) (ceiling c m x h .1 (ltb-true (m * c) x e)))
+ceiling-test c m x h = same-less m ((x + (c - 1)) / c) (m * c) x (ceiling c m x h .0) (ceiling c m x h .1)

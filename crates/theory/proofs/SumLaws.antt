@@ -6,8 +6,8 @@ use native.Mathlib.Nat.{le-refl}
 use native.Mathlib.Decide.{ℕ-discrete}
 use native.Mathlib.Numerals.{add-one}
 use native.Mathlib.Omega.{arith}
-use lib.Dec.{eqb}
-use borrow.Author.Tests.{eq-eqb, ne-eqb}
+use lib.Dec.{eqb, ltb}
+use borrow.Author.Tests.{lt-ltb, le-ltb, eq-eqb, ne-eqb}
 use Rattle.theory.specs.Sum.{pick, sum}
 
 pub pick-le : (b : Bool) (x : ℕ) → pick b x ≤ x
@@ -117,3 +117,22 @@ sum-point-le (suc n) k x = go (ℕ-discrete k n) (sum-point-le n k x)
     go : Dec (k ≡ n) → sum n (λ i. pick (eqb k i) x) ≤ x → sum n (λ i. pick (eqb k i) x) + pick (eqb k n) x ≤ x
     go (yes e) ih = omega (arith, sum-zero n (λ i. pick (eqb k i) x) (λ i q. pick-ne k i x (λ r. omega arith)), pick-eq k n x e)
     go (no d) ih = omega (arith, pick-ne k n x d)
+
+-- a sum of which the first r are left out
+pub sum-behind : (n r : ℕ) (f g : ℕ → ℕ) → r ≤ n → ((q : ℕ) → q < r → g q ≡ 0) → ((q : ℕ) → r ≤ q → q < n → g q ≡ f q) → sum n g + sum r f ≡ sum n f
+unfolding sum
+sum-behind zero r f g l none same = let e : r ≡ 0 = omega arith in omega (arith, ap (λ k. sum k f) e)
+sum-behind (suc n) r f g l none same = go (ℕ-discrete r (suc n)) (λ h. sum-behind n r f g h none (λ q k m. same q k (omega arith)))
+  where
+    go : Dec (r ≡ suc n) → (r ≤ n → sum n g + sum r f ≡ sum n f) → sum n g + g n + sum r f ≡ sum n f + f n
+    go (yes e) ih = omega (arith, sum-zero n g (λ q h. none q (omega arith)), none n (omega arith), ap (λ k. sum k f) e)
+    go (no d) ih = omega (arith, ih (omega (arith, d)), same n (omega (arith, d)) (omega arith))
+
+pub sum-front : (n r : ℕ) (f : ℕ → ℕ) → r ≤ n → sum r f ≤ sum n f
+sum-front n r f l =
+    omega (
+      arith,
+      sum-behind n r f (λ q. pick (not (ltb q r)) (f q)) l
+          (λ q h. ap (λ t. pick (not t) (f q)) (lt-ltb q r h))
+          (λ q h m. ap (λ t. pick (not t) (f q)) (le-ltb q r h)),
+    )

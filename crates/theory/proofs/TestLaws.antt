@@ -7,6 +7,8 @@ use native.Mathlib.Numerals.{add-one}
 use native.Mathlib.Nat.{le-refl}
 use native.Mathlib.Decide.{ℕ-discrete}
 use native.Mathlib.Omega.{arith}
+use lib.Dec.{ltb}
+use borrow.Author.Tests.{lt-ltb, ltb-true}
 use Rattle.theory.specs.Tests.{all, any}
 
 -- ---- two tests
@@ -40,6 +42,9 @@ pub same-tests : (a b : Bool) → (a ≡ true → b ≡ true) → (b ≡ true �
 same-tests true b p q = sym (p refl)
 same-tests false true p q = q refl
 same-tests false false p q = refl
+
+pub same-less : (a b c d : ℕ) → (a < b → c < d) → (c < d → a < b) → ltb a b ≡ ltb c d
+same-less a b c d f g = same-tests (ltb a b) (ltb c d) (λ e. lt-ltb c d (f (ltb-true a b e))) (λ e. lt-ltb a b (g (ltb-true c d e)))
 
 -- ---- all below n
 
