@@ -1,5 +1,6 @@
 -- Laws about records.
 pub mod EntryLaws
+pub mod GatherLaws
 pub mod ListLaws
 pub mod LayLaws
 pub mod WriteLaws

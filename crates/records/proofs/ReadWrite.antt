@@ -12,17 +12,18 @@ use borrow.Author.Tests.{eqb-true}
 use Rattle.theory.specs.Tab.{tab}
 use Rattle.theory.proofs.TabLaws.{length-tab, getD-tab}
 use Rattle.theory.proofs.TestLaws.{all-at}
-use Rattle.year.specs.Year.{zeroTerm, zeroCourse}
+use Rattle.year.specs.Year.{courseOf, zeroTerm, zeroCourse}
 use Rattle.year.specs.declared.Term.{Term}
 use Rattle.year.specs.declared.Course.{Course}
 use Rattle.year.specs.declared.Year.{Year}
 use Rattle.records.specs.declared.Record.the-variants.{OfTerm, OfCourse}
 use Rattle.records.specs.Bytes.{letterAt, byteAt, wordAt, blankAt, blankFrom, AllBytes}
-use Rattle.records.specs.Reading.{blankYear, addTerm, addCourse, done, readList}
+use Rattle.records.specs.Reading.{blankYear, addTerm, addCourse, done, recordIn, readList}
 use Rattle.records.specs.Writing.{termBytes, courseBytes, termBlock, courseBlock, joined, recordsOf}
-use Rattle.records.proofs.EntryLaws.{termIn, courseIn, TermRead, CourseRead, record-term, record-course}
+use Rattle.records.proofs.EntryLaws.{termIn, TermRead, CourseRead, record-term, record-course}
 use Rattle.records.proofs.LayLaws.{joined-more}
-use Rattle.records.proofs.ListLaws.{recordIn, Front, front-start, front-term, front-course, read-keeps, list-read}
+use Rattle.records.proofs.GatherLaws.{gathered-keeps}
+use Rattle.records.proofs.ListLaws.{Front, front-start, front-term, front-course, list-read}
 
 -- ---- sixteen bytes of a list
 
@@ -67,14 +68,14 @@ module _ (s : List ℕ) (at : ℕ) (fits : at + 16 ≤ length s) (bytes : AllByt
       let b7 = low 6 (lit< tt) in
       let b8 = high 8 (lit< tt) in
       let b9 = low 8 (lit< tt) in
-      let z0 = blank-byte s at 10 0 (r .blank) (lit< tt) in
-      let z1 = blank-byte s at 10 1 (r .blank) (lit< tt) in
-      let z2 = blank-byte s at 10 2 (r .blank) (lit< tt) in
-      let z3 = blank-byte s at 10 3 (r .blank) (lit< tt) in
-      let z4 = blank-byte s at 10 4 (r .blank) (lit< tt) in
-      let z5 = blank-byte s at 10 5 (r .blank) (lit< tt) in
+      let z0 = blank-byte s at 10 0 (r .held .blank) (lit< tt) in
+      let z1 = blank-byte s at 10 1 (r .held .blank) (lit< tt) in
+      let z2 = blank-byte s at 10 2 (r .held .blank) (lit< tt) in
+      let z3 = blank-byte s at 10 3 (r .held .blank) (lit< tt) in
+      let z4 = blank-byte s at 10 4 (r .held .blank) (lit< tt) in
+      let z5 = blank-byte s at 10 5 (r .held .blank) (lit< tt) in
       let is : tab 16 (byteAt s at) ≡ termBytes n (termIn s at) = cc (r .number) in
-      taken-bytes s at 16 fits ∙ is ∙ ap (termBytes n) (r .holds)
+      taken-bytes s at 16 fits ∙ is ∙ ap (termBytes n) (r .held .holds)
 
   pub course-back : (n terms : ℕ) (c : Course) → letterAt s at ≡ 67 → CourseRead s at n terms c → take 16 (drop at s) ≡ courseBytes n c
   unfolding tab
@@ -84,18 +85,18 @@ module _ (s : List ℕ) (at : ℕ) (fits : at + 16 ≤ length s) (bytes : AllByt
       let b3 = low 2 (lit< tt) in
       let b4 = high 4 (lit< tt) in
       let b5 = low 4 (lit< tt) in
-      let z0 = blank-byte s at 6 0 (r .blank) (lit< tt) in
-      let z1 = blank-byte s at 6 1 (r .blank) (lit< tt) in
-      let z2 = blank-byte s at 6 2 (r .blank) (lit< tt) in
-      let z3 = blank-byte s at 6 3 (r .blank) (lit< tt) in
-      let z4 = blank-byte s at 6 4 (r .blank) (lit< tt) in
-      let z5 = blank-byte s at 6 5 (r .blank) (lit< tt) in
-      let z6 = blank-byte s at 6 6 (r .blank) (lit< tt) in
-      let z7 = blank-byte s at 6 7 (r .blank) (lit< tt) in
-      let z8 = blank-byte s at 6 8 (r .blank) (lit< tt) in
-      let z9 = blank-byte s at 6 9 (r .blank) (lit< tt) in
-      let is : tab 16 (byteAt s at) ≡ courseBytes n (courseIn s at) = cc (r .number) in
-      taken-bytes s at 16 fits ∙ is ∙ ap (courseBytes n) (r .holds)
+      let z0 = blank-byte s at 6 0 (r .held .blank) (lit< tt) in
+      let z1 = blank-byte s at 6 1 (r .held .blank) (lit< tt) in
+      let z2 = blank-byte s at 6 2 (r .held .blank) (lit< tt) in
+      let z3 = blank-byte s at 6 3 (r .held .blank) (lit< tt) in
+      let z4 = blank-byte s at 6 4 (r .held .blank) (lit< tt) in
+      let z5 = blank-byte s at 6 5 (r .held .blank) (lit< tt) in
+      let z6 = blank-byte s at 6 6 (r .held .blank) (lit< tt) in
+      let z7 = blank-byte s at 6 7 (r .held .blank) (lit< tt) in
+      let z8 = blank-byte s at 6 8 (r .held .blank) (lit< tt) in
+      let z9 = blank-byte s at 6 9 (r .held .blank) (lit< tt) in
+      let is : tab 16 (byteAt s at) ≡ courseBytes n (courseOf (wordAt s at 2) (wordAt s at 4)) = cc (r .number) in
+      taken-bytes s at 16 fits ∙ is ∙ ap (courseBytes n) (r .held .holds)
 
 -- ---- the records of a year with one more
 
@@ -147,7 +148,7 @@ module _ (s : List ℕ) (bytes : AllBytes s) where
   back-term : (k : ℕ) (y : Year) (t : Term) → Back k y → recordIn s k y ≡ OfTerm t → Back (suc k) (addTerm y t)
   back-term k y t p e =
       let r = record-term s (k * 16) (y .terms) (y .courses) t e in
-      let room : y .terms < length (y .term) = omega (arith, r .2 .room, p .0 .term-length) in (
+      let room : y .terms < length (y .term) = omega (arith, r .2 .room, p .0 .begun .term-length) in (
         front-term s k y t (p .0) e,
         λ h.
             records-term y t (r .1) room
@@ -158,7 +159,7 @@ module _ (s : List ℕ) (bytes : AllBytes s) where
   back-course : (k : ℕ) (y : Year) (c : Course) → Back k y → recordIn s k y ≡ OfCourse c → Back (suc k) (addCourse y c)
   back-course k y c p e =
       let r = record-course s (k * 16) (y .terms) (y .courses) c e in
-      let room : y .courses < length (y .course) = omega (arith, r .2 .room, p .0 .course-length) in (
+      let room : y .courses < length (y .course) = omega (arith, r .2 .room, p .0 .begun .course-length) in (
         front-course s k y c (p .0) e,
         λ h.
             records-course y c room
@@ -169,5 +170,5 @@ module _ (s : List ℕ) (bytes : AllBytes s) where
   pub read-write : (y : Year) → readList s ≡ done y → recordsOf y ≡ s
   read-write y e =
       let l = list-read s y e in
-      let b = read-keeps s Back back-start back-term back-course (length s / 16) y (l .2) in
+      let b = gathered-keeps (recordIn s) blankYear Back back-start back-term back-course (length s / 16) y (l .2) in
       b .1 (omega (arith, l .1)) ∙ ap (λ (n : ℕ). take n s) (l .1) ∙ take-length s

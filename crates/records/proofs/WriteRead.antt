@@ -1,16 +1,16 @@
 -- What was written of a sound year is read back as that year.
 use Prim.Native.Nat.{ℕ, zero, suc, _+_, _*_, _/_, _%_, _≤_, _<_}
-use mathlib.Core.Bool.{false, not, _||_}
+use mathlib.Core.Bool.{true, _&&_}
 use mathlib.Core.List.{List, _++_}
 use mathlib.Core.Path.{_≡_, refl, sym, ap, _∙_}
 use native.Mathlib.Nat.{add-zero, add-suc, div-eq-of-lt}
 use native.Mathlib.Numerals.{add-one}
 use native.Mathlib.Omega.{arith}
 use native.Mathlib.Decide.{ℕ-discrete, decLt}
-use lib.Dec.{eqb, leb, lit<}
+use lib.Dec.{eqb, ltb, lit<}
 use lib.ListN.{length, getD, set, replicate, length-replicate, getD-replicate, List·getD-append}
 use lib.Seq.{ext-getD, getD-append-add, getD-set-other}
-use borrow.Author.Tests.{le-ltb, le-leb, lt-leb, eq-eqb, ne-eqb}
+use borrow.Author.Tests.{lt-ltb, le-ltb, le-leb, eq-eqb, ne-eqb}
 use Rattle.theory.proofs.TabLaws.{fill, length-fill, getD-fill}
 use Rattle.theory.specs.Tests.{all}
 use Rattle.year.specs.Year.{termAt, courseAt, zeroTerm, zeroCourse}
@@ -20,10 +20,10 @@ use Rattle.year.specs.declared.Course.{Course}
 use Rattle.year.specs.declared.Year.{Year}
 use Rattle.records.specs.declared.Record.the-variants.{OfTerm, OfCourse}
 use Rattle.records.specs.Bytes.{letterAt, byteAt}
-use Rattle.records.specs.Reading.{termRecord, courseRecord, recordAt, addTerm, addCourse, done, taken, readTo, readList}
+use Rattle.records.specs.Reading.{termByItself, courseBy, termRecord, courseRecord, recordAt, blankYear, addTerm, addCourse, done, taken, recordIn, readTo, readList}
 use Rattle.records.specs.Writing.{termBytes, courseBytes, termBlock, courseBlock, joined, recordsOf}
 use Rattle.records.proofs.LayLaws.{length-joined}
-use Rattle.records.proofs.ListLaws.{read-zero, read-more}
+use Rattle.records.proofs.GatherLaws.{gathered-zero, gathered-more}
 use Rattle.records.proofs.WriteLaws.{records-length, records-most}
 
 -- ---- a byte of a block
@@ -68,11 +68,11 @@ word-is a b n p q = omega arith
 letter-is : (s : List ℕ) (at x : ℕ) → byteAt s at 0 ≡ x → letterAt s at ≡ x
 letter-is s at x e = ap (λ (n : ℕ). getD s n 0) (sym (add-zero at)) ∙ e
 
-number-good : (b n most : ℕ) → b ≡ n → n < most → (not (eqb b n) || leb most n) ≡ false
-number-good b n most e h = simp (eq-eqb _ _ e, lt-leb _ _ h)
+number-good : (b n most : ℕ) → b ≡ n → n < most → (eqb b n && ltb n most) ≡ true
+number-good b n most e h = simp (eq-eqb _ _ e, lt-ltb _ _ h)
 
 term-reads : (s : List ℕ) (at n : ℕ) (t : Term) → ((r : ℕ) → r < 16 → byteAt s at r ≡ getD (termBytes n t) r 0) → TermSound t → n < 16 → recordAt s at n 0 ≡ OfTerm t
-unfolding recordAt termRecord all
+unfolding recordAt termRecord termByItself all
 term-reads s at n t h sound room =
     let w2 = word-is (byteAt s at 2) (byteAt s at 3) (t .low .0) (h 2 (lit< tt)) (h 3 (lit< tt)) in
     let w4 = word-is (byteAt s at 4) (byteAt s at 5) (t .high .0) (h 4 (lit< tt)) (h 5 (lit< tt)) in
@@ -97,7 +97,7 @@ term-reads s at n t h sound room =
     ))
 
 course-reads : (s : List ℕ) (at n terms : ℕ) (c : Course) → ((r : ℕ) → r < 16 → byteAt s at r ≡ getD (courseBytes n c) r 0) → CourseSound c terms → n < 64 → 1 ≤ terms → recordAt s at terms n ≡ OfCourse c
-unfolding recordAt courseRecord all
+unfolding recordAt courseRecord courseBy all
 course-reads s at n terms c h sound room some =
     let w2 = word-is (byteAt s at 2) (byteAt s at 3) (c .weight .0) (h 2 (lit< tt)) (h 3 (lit< tt)) in
     let w4 = word-is (byteAt s at 4) (byteAt s at 5) (c .list) (h 4 (lit< tt)) (h 5 (lit< tt)) in
@@ -169,11 +169,11 @@ front-all y s =
 module _ (y : Year) (s : Sound y) where
   reads-terms : (j : ℕ) → j ≤ y .terms → readTo (recordsOf y) j ≡ done (front y j 0)
   unfolding fill
-  reads-terms zero h = read-zero (recordsOf y)
+  reads-terms zero h = gathered-zero (recordIn (recordsOf y)) blankYear
   reads-terms (suc j) h =
       let is : recordAt (recordsOf y) (j * 16) j 0 ≡ OfTerm (termAt y j) =
       term-reads (recordsOf y) (j * 16) j (termAt y j) (λ r m. term-byte y j r (omega arith) m) (s .term-sound j (omega arith)) (omega (arith, s .terms-most)) in
-      read-more (recordsOf y) j (front y j 0) (reads-terms j (omega arith)) ∙ ap (taken (front y j 0) j) is ∙ ap done (front-term y j)
+      gathered-more (recordIn (recordsOf y)) blankYear j (front y j 0) (reads-terms j (omega arith)) ∙ ap (taken (front y j 0) j) is ∙ ap done (front-term y j)
 
   reads-courses : (i : ℕ) → i ≤ y .courses → readTo (recordsOf y) (y .terms + i) ≡ done (front y (y .terms) i)
   unfolding fill
@@ -183,7 +183,7 @@ module _ (y : Year) (s : Sound y) where
       let is : recordAt (recordsOf y) ((m + i) * 16) m i ≡ OfCourse (courseAt y i) =
       course-reads (recordsOf y) ((m + i) * 16) i m (courseAt y i) (λ r q. course-byte y i r (omega arith) q) (s .course-sound i (omega arith)) (omega (arith, s .courses-most)) (s .terms-least) in
       ap (readTo (recordsOf y)) (add-suc m i)
-      ∙ read-more (recordsOf y) (m + i) (front y m i) (reads-courses i (omega arith))
+      ∙ gathered-more (recordIn (recordsOf y)) blankYear (m + i) (front y m i) (reads-courses i (omega arith))
       ∙ ap (taken (front y m i) (m + i)) is
       ∙ ap done (front-course y m i)
 

@@ -11,6 +11,10 @@ use Rattle.year.specs.declared.Course.{Course}
 use Rattle.year.specs.declared.Year.{Year}
 use Rattle.records.specs.declared.Fault.{Fault}
 use Rattle.records.specs.declared.Fault.the-variants as fault
+use Rattle.records.specs.declared.AsTerm.{AsTerm}
+use Rattle.records.specs.declared.AsTerm.the-variants as asTerm
+use Rattle.records.specs.declared.AsCourse.{AsCourse}
+use Rattle.records.specs.declared.AsCourse.the-variants as asCourse
 use Rattle.records.specs.declared.Record.{Record}
 use Rattle.records.specs.declared.Record.the-variants.{OfTerm, OfCourse, Faulty}
 use Rattle.records.specs.declared.Reading.{Reading}
@@ -20,9 +24,9 @@ use Rattle.records.specs.Bytes.{letterAt, byteAt, wordAt, blankFrom}
 
 -- ---- one record
 
--- refusal 3: the number is not the next of its kind, or the year has no room for it
-abbrev pub badNumber : List ℕ → ℕ → ℕ → ℕ → Bool
-badNumber s at next most = not (eqb (byteAt s at 1) next) || leb most next
+-- refusal 3 passes: it bears the next number of its kind, and the largest year has room for it
+abbrev pub bearsNext : List ℕ → ℕ → ℕ → ℕ → Bool
+bearsNext s at next most = eqb (byteAt s at 1) next && ltb next most
 
 -- refusals 4 and 5 of a term
 abbrev pub badBounds : List ℕ → ℕ → Bool
@@ -31,36 +35,55 @@ badBounds s at = ltb 64000 (wordAt s at 2) || ltb 64000 (wordAt s at 4) || ltb 6
 abbrev pub badOrder : List ℕ → ℕ → Bool
 badOrder s at = ltb (wordAt s at 4) (wordAt s at 2) || ltb (wordAt s at 8) (wordAt s at 6)
 
--- refusals 4 and 6 of a course
-abbrev pub badWeight : List ℕ → ℕ → Bool
-badWeight s at = ltb (wordAt s at 2) 1 || ltb 1000 (wordAt s at 2)
+-- refusals 4 and 6 of a course, by its weight, and by its list in a year of that many terms
+abbrev pub badWeight : ℕ → Bool
+badWeight w = ltb w 1 || ltb 1000 w
 
-abbrev pub badList : List ℕ → ℕ → ℕ → Bool
-badList s at terms = eqb (wordAt s at 4) 0 || not (eqb (wordAt s at 4 / 2 ^ terms) 0)
+abbrev pub badList : ℕ → ℕ → Bool
+badList l terms = eqb l 0 || not (eqb (l / 2 ^ terms) 0)
+
+-- a term's record by itself, its letter and its number set aside: refusals 4, 5 and 7, or the term
+unfoldable pub termByItself : List ℕ → ℕ → AsTerm
+termByItself s at =
+    choose (badBounds s at) (asTerm.Faulty fault.Size)
+    (choose (badOrder s at) (asTerm.Faulty fault.Order)
+    (choose (blankFrom s at 10) (asTerm.Good (termOf (wordAt s at 2) (wordAt s at 4) (wordAt s at 6) (wordAt s at 8)))
+    (asTerm.Faulty fault.Padding)))
+
+-- a course of a weight and a list, from a record whose other bytes are zero or not: refusals 4, 6 and 7, or the course
+unfoldable pub courseBy : ℕ → ℕ → Bool → ℕ → AsCourse
+courseBy w l zeros terms =
+    choose (badWeight w) (asCourse.Faulty fault.Size)
+    (choose (badList l terms) (asCourse.Faulty fault.List)
+    (choose zeros (asCourse.Good (courseOf w l))
+    (asCourse.Faulty fault.Padding)))
+
+-- a course's record by itself, its letter and its number set aside, in a year of that many terms
+abbrev pub courseByItself : List ℕ → ℕ → ℕ → AsCourse
+courseByItself s at terms = courseBy (wordAt s at 2) (wordAt s at 4) (blankFrom s at 6) terms
 
 -- a term's record behind its letter, as term `next`
-unfoldable pub termRecord : List ℕ → ℕ → ℕ → Record
-termRecord s at next =
-    choose (badNumber s at next 16) (Faulty fault.Number)
-    (choose (badBounds s at) (Faulty fault.Size)
-    (choose (badOrder s at) (Faulty fault.Order)
-    (choose (blankFrom s at 10) (OfTerm (termOf (wordAt s at 2) (wordAt s at 4) (wordAt s at 6) (wordAt s at 8)))
-    (Faulty fault.Padding))))
+unfoldable pub termRecord : List ℕ → ℕ → ℕ → AsTerm
+termRecord s at next = choose (bearsNext s at next 16) (termByItself s at) (asTerm.Faulty fault.Number)
 
 -- a course's record behind its letter, as course `next` of a year of that many terms
-unfoldable pub courseRecord : List ℕ → ℕ → ℕ → ℕ → Record
-courseRecord s at next terms =
-    choose (badNumber s at next 64) (Faulty fault.Number)
-    (choose (badWeight s at) (Faulty fault.Size)
-    (choose (badList s at terms) (Faulty fault.List)
-    (choose (blankFrom s at 6) (OfCourse (courseOf (wordAt s at 2) (wordAt s at 4)))
-    (Faulty fault.Padding))))
+unfoldable pub courseRecord : List ℕ → ℕ → ℕ → ℕ → AsCourse
+courseRecord s at next terms = choose (bearsNext s at next 64) (courseByItself s at terms) (asCourse.Faulty fault.Number)
+
+-- either of them as a record of a list
+abbrev pub ofTerm : AsTerm → Record
+ofTerm (asTerm.Good t) = OfTerm t
+ofTerm (asTerm.Faulty f) = Faulty f
+
+abbrev pub ofCourse : AsCourse → Record
+ofCourse (asCourse.Good c) = OfCourse c
+ofCourse (asCourse.Faulty f) = Faulty f
 
 -- the record at a place, behind that many terms and courses; refusal 2: no letter, a term behind a course, a course before any term
 unfoldable pub recordAt : List ℕ → ℕ → ℕ → ℕ → Record
 recordAt s at terms courses =
-    choose (eqb (letterAt s at) 84 && eqb courses 0) (termRecord s at terms)
-    (choose (eqb (letterAt s at) 67 && leb 1 terms) (courseRecord s at courses terms) (Faulty fault.Letter))
+    choose (eqb (letterAt s at) 84 && eqb courses 0) (ofTerm (termRecord s at terms))
+    (choose (eqb (letterAt s at) 67 && leb 1 terms) (ofCourse (courseRecord s at courses terms)) (Faulty fault.Letter))
 
 -- ---- the list
 
@@ -92,12 +115,19 @@ abbrev pub onward : Received → Reading → Received → Received
 onward r Done next = next
 onward r (Refused f k) next = r
 
--- the first k records
-unfoldable pub readTo : List ℕ → ℕ → Received
-readTo s zero = done blankYear
-readTo s (suc k) =
-    onward (readTo s k) (readTo s k .answer)
-    (taken (readTo s k .year) k (recordAt s (k * 16) (readTo s k .year .terms) (readTo s k .year .courses)))
+-- the first k records of a list taken into a year one by one; `entry i` says what record i is, behind the year so far
+unfoldable pub gathered : (ℕ → Year → Record) → Year → ℕ → Received
+gathered entry y zero = done y
+gathered entry y (suc k) =
+    onward (gathered entry y k) (gathered entry y k .answer)
+    (taken (gathered entry y k .year) k (entry k (gathered entry y k .year)))
+
+-- record k of a list of terms and courses
+abbrev pub recordIn : List ℕ → ℕ → Year → Record
+recordIn s k y = recordAt s (k * 16) (y .terms) (y .courses)
+
+abbrev pub readTo : List ℕ → ℕ → Received
+readTo s = gathered (recordIn s) blankYear
 
 -- refusal 1
 abbrev pub badLength : ℕ → Bool

@@ -1,4 +1,6 @@
 // One record: its faults in the paper's order, or the term or course that it holds.
+use crate::AsCourse;
+use crate::AsTerm;
 use crate::COURSE_LETTER;
 use crate::Fault;
 use crate::Record;
@@ -10,18 +12,23 @@ use year::Credits;
 use year::Term;
 use year::Year;
 ghost use mathlib.Core.Path.{_≡_};
-ghost use Prim.Native.Nat.{_+_, _≤_};
+ghost use Prim.Native.Nat.{_+_, _≤_, _<_};
 ghost use lib.ListN.{length};
-ghost use Rattle.records.specs.Reading.{termRecord, courseRecord, recordAt};
+ghost use Rattle.records.specs.Reading.{bearsNext, termByItself, courseBy, courseByItself, termRecord, courseRecord, ofTerm, ofCourse, recordAt};
 
-// The record at `at`, which starts with a term's letter, as the term with the next number.
-fn read_term(s: &[u8], at: usize, number: usize) -> Record
+// The record at `at` bears the next number of its kind, of which the largest year has `most`.
+pub fn bears_next(s: &[u8], at: usize, next: usize, most: usize) -> bool
     requires { ⌜ at + 16 ≤ length (now s) ⌝ }
-    ensures { λ r. ⌜ r ≡ termRecord (now (s .entry)) at number ⌝ }
+    ensures { λ r. ⌜ r ≡ bearsNext (now (s .entry)) at next most ⌝ }
 {
-    if (s[at + 1] as usize != number) | (Year::TERMS <= number) {
-        return Record::Faulty(Fault::Number);
-    }
+    (s[at + 1] as usize == next) & (next < most)
+}
+
+// The record at `at` as a term's, its letter and its number set aside.
+pub fn term_by_itself(s: &[u8], at: usize) -> AsTerm
+    requires { ⌜ at + 16 ≤ length (now s) ⌝ }
+    ensures { λ r. ⌜ r ≡ termByItself (now (s .entry)) at ⌝ }
+{
     let credits = Year::CREDITS;
     let count = Year::COUNT;
     let low = bytes::word(s, at, 2);
@@ -29,15 +36,15 @@ fn read_term(s: &[u8], at: usize, number: usize) -> Record
     let least = bytes::word(s, at, 6);
     let most = bytes::word(s, at, 8);
     if (credits.0 < low) | (credits.0 < high) | (count.0 < least) | (count.0 < most) {
-        return Record::Faulty(Fault::Size);
+        return AsTerm::Faulty(Fault::Size);
     }
     if (high < low) | (most < least) {
-        return Record::Faulty(Fault::Order);
+        return AsTerm::Faulty(Fault::Order);
     }
     if !bytes::blank_from(s, at, 10) {
-        return Record::Faulty(Fault::Padding);
+        return AsTerm::Faulty(Fault::Padding);
     }
-    Record::OfTerm(Term {
+    AsTerm::Good(Term {
         low: Credits(low),
         high: Credits(high),
         least: Courses(least),
@@ -45,31 +52,82 @@ fn read_term(s: &[u8], at: usize, number: usize) -> Record
     })
 }
 
+// A course of a weight and a list, in a year of that many terms, from a record whose other bytes are zero or not.
+pub fn course_by(weight: Credits, list: u32, zeros: bool, terms: usize) -> AsCourse
+    requires { ⌜ list < 65536 ⌝ }
+    requires { ⌜ terms ≤ 16 ⌝ }
+    ensures { λ r. ⌜ r ≡ courseBy (weight .0) list zeros terms ⌝ }
+{
+    let heaviest = Year::WEIGHT;
+    if (weight.0 < 1) | (heaviest.0 < weight.0) {
+        return AsCourse::Faulty(Fault::Size);
+    }
+    if (list == 0) | (list >> terms != 0) {
+        return AsCourse::Faulty(Fault::List);
+    }
+    if !zeros {
+        return AsCourse::Faulty(Fault::Padding);
+    }
+    AsCourse::Good(Course {
+        weight: weight,
+        list: list as u16,
+    })
+}
+
+// The record at `at` as a course's, its letter and its number set aside, in a year of that many terms.
+pub fn course_by_itself(s: &[u8], at: usize, terms: usize) -> AsCourse
+    requires { ⌜ at + 16 ≤ length (now s) ⌝ }
+    requires { ⌜ terms ≤ 16 ⌝ }
+    ensures { λ r. ⌜ r ≡ courseByItself (now (s .entry)) at terms ⌝ }
+{
+    let weight = Credits(bytes::word(s, at, 2));
+    course_by(
+        weight,
+        bytes::word(s, at, 4),
+        bytes::blank_from(s, at, 6),
+        terms,
+    )
+}
+
+// The record at `at`, which starts with a term's letter, as the term with the next number.
+pub fn read_term(s: &[u8], at: usize, number: usize) -> AsTerm
+    requires { ⌜ at + 16 ≤ length (now s) ⌝ }
+    ensures { λ r. ⌜ r ≡ termRecord (now (s .entry)) at number ⌝ }
+{
+    if !bears_next(s, at, number, Year::TERMS) {
+        return AsTerm::Faulty(Fault::Number);
+    }
+    term_by_itself(s, at)
+}
+
 // The record at `at`, which starts with a course's letter, as the course with the next number in a year of that many terms.
-fn read_course(s: &[u8], at: usize, number: usize, terms: usize) -> Record
+fn read_course(s: &[u8], at: usize, number: usize, terms: usize) -> AsCourse
     requires { ⌜ at + 16 ≤ length (now s) ⌝ }
     requires { ⌜ terms ≤ 16 ⌝ }
     ensures { λ r. ⌜ r ≡ courseRecord (now (s .entry)) at number terms ⌝ }
 {
-    if (s[at + 1] as usize != number) | (Year::COURSES <= number) {
-        return Record::Faulty(Fault::Number);
+    if !bears_next(s, at, number, Year::COURSES) {
+        return AsCourse::Faulty(Fault::Number);
     }
-    let heaviest = Year::WEIGHT;
-    let weight = bytes::word(s, at, 2);
-    let list = bytes::word(s, at, 4);
-    if (weight < 1) | (heaviest.0 < weight) {
-        return Record::Faulty(Fault::Size);
+    course_by_itself(s, at, terms)
+}
+
+fn of_term(r: AsTerm) -> Record
+    ensures { λ x. ⌜ x ≡ ofTerm r ⌝ }
+{
+    match r {
+        AsTerm::Good(t) => Record::OfTerm(t),
+        AsTerm::Faulty(f) => Record::Faulty(f),
     }
-    if (list == 0) | (list >> terms != 0) {
-        return Record::Faulty(Fault::List);
+}
+
+fn of_course(r: AsCourse) -> Record
+    ensures { λ x. ⌜ x ≡ ofCourse r ⌝ }
+{
+    match r {
+        AsCourse::Good(c) => Record::OfCourse(c),
+        AsCourse::Faulty(f) => Record::Faulty(f),
     }
-    if !bytes::blank_from(s, at, 6) {
-        return Record::Faulty(Fault::Padding);
-    }
-    Record::OfCourse(Course {
-        weight: Credits(weight),
-        list: list as u16,
-    })
 }
 
 // The record at `at` after that many terms and courses. Terms come first, and one at least.
@@ -79,10 +137,10 @@ pub fn read_record(s: &[u8], at: usize, terms: usize, courses: usize) -> Record
     ensures { λ r. ⌜ r ≡ recordAt (now (s .entry)) at terms courses ⌝ }
 {
     if (s[at] == TERM_LETTER) & (courses == 0) {
-        return read_term(s, at, terms);
+        return of_term(read_term(s, at, terms));
     }
     if (s[at] == COURSE_LETTER) & (1 <= terms) {
-        return read_course(s, at, courses, terms);
+        return of_course(read_course(s, at, courses, terms));
     }
     Record::Faulty(Fault::Letter)
 }

@@ -1,7 +1,7 @@
 // Years as records of 16 bytes: any byte string is read, or refused at its first fault; a sound year is written into a lent buffer.
 mod blocks;
-mod bytes;
-mod entries;
+pub mod bytes;
+pub mod entries;
 
 use year::Course;
 use year::Term;
@@ -26,7 +26,18 @@ pub enum Fault {
     Padding,
 }
 
-// What one record holds.
+// What a record holds as a term's, and as a course's.
+pub enum AsTerm {
+    Good(Term),
+    Faulty(Fault),
+}
+
+pub enum AsCourse {
+    Good(Course),
+    Faulty(Fault),
+}
+
+// What one record of a list holds.
 pub enum Record {
     OfTerm(Term),
     OfCourse(Course),
@@ -77,7 +88,8 @@ pub fn fault_number(f: Fault) -> u32
     }
 }
 
-fn refused(f: Fault, k: usize) -> Received
+// What a refused reading hands back.
+pub fn refused(f: Fault, k: usize) -> Received
     ensures { λ r. ⌜ r ≡ refused f k ⌝ }
 {
     let y = Year::empty();
@@ -88,7 +100,7 @@ fn refused(f: Fault, k: usize) -> Received
 }
 
 // The year before its first record.
-fn blank() -> Year
+pub fn blank() -> Year
     ensures { λ r. ⌜ r ≡ blankYear ⌝ }
 {
     let mut y = Year::empty();
@@ -96,7 +108,7 @@ fn blank() -> Year
     y
 }
 
-fn bad_length(n: usize) -> bool
+pub fn bad_length(n: usize) -> bool
     ensures { λ r. ⌜ r ≡ badLength n ⌝ }
 {
     (n == 0) | (LONGEST < n) | (n % RECORD != 0)

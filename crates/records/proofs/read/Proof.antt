@@ -8,9 +8,10 @@ use native.Mathlib.Omega.{arith}
 use native.Mathlib.Numerals.{add-one}
 use borrow.Author.Needs.{needs}
 use lib.ListN.{length}
-use Rattle.records.specs.Reading.{readTo, readList, done, refused, taken}
+use Rattle.records.specs.Reading.{blankYear, recordIn, readTo, readList, done, refused, taken}
 use Rattle.records.proofs.EntryLaws.{record-term, record-course}
-use Rattle.records.proofs.ListLaws as law
+use Rattle.records.proofs.GatherLaws.{gathered-zero, gathered-more, refused-stays}
+use Rattle.records.proofs.ListLaws.{Front, read-front}
 
 abbrev Inv-loop : tie.InvT-loop
 Inv-loop s n y₀ k₀ k-end y k = (k ≤ n / 16) × (readTo s k ≡ done y)
@@ -19,8 +20,8 @@ abbrev μ-loop : tie.MeasureT-loop
 μ-loop s n y₀ k₀ k-end y k = n / 16 - k
 
 -- the year so far is the front of a sound year
-front : (c : tie.At-loop Inv-loop μ-loop) → law.Front (c .loop .k) (c .loop .y)
-front c = law.read-front (c .before .before .before .before .before .args .s .now) (c .loop .k) (c .loop .y) (c .loop .inv .1)
+front : (c : tie.At-loop Inv-loop μ-loop) → Front (c .loop .k) (c .loop .y)
+front c = read-front (c .before .before .before .before .before .args .s .now) (c .loop .k) (c .loop .y) (c .loop .inv .1)
 
 term-room : (c : tie.After-t Inv-loop μ-loop) → c .before .before .before .before .loop .y .terms < 16
 term-room c =
@@ -44,13 +45,13 @@ blank-requires : tie.Need-blank-requires Inv-loop μ-loop
 blank-requires c κs = search needs
 
 loop-holds : tie.Need-loop-holds Inv-loop μ-loop
-loop-holds c = (search needs, law.read-zero _ ∙ ap done (sym (c .blank .ensures)))
+loop-holds c = (search needs, gathered-zero _ _ ∙ ap done (sym (c .blank .ensures)))
 
 mul-read-record : tie.Need-mul-read-record Inv-loop μ-loop
 mul-read-record c = search needs
 
 read-record-requires : tie.Need-read-record-requires Inv-loop μ-loop
-read-record-requires c κs = (omega arith, front (c .before) .terms-most)
+read-record-requires c κs = (omega arith, front (c .before) .begun .terms-most)
 
 enum-known-t : tie.Need-enum-known-t Inv-loop μ-loop
 enum-known-t c = search needs
@@ -90,9 +91,9 @@ returns-2 c =
     let y = c .before .before .before .before .before .before .loop .y in
     let f = c .before .before .f .given .0 .0 in
     let more : readTo s (suc k) ≡ refused f k =
-    law.read-more s k y (c .before .before .before .before .before .before .loop .inv .1) ∙ ap (taken y k) (sym (c .before .before .before .before .read-record .ensures) ∙ c .before .before .f .given .1) in
+    gathered-more (recordIn s) blankYear k y (c .before .before .before .before .before .before .loop .inv .1) ∙ ap (taken y k) (sym (c .before .before .before .before .read-record .ensures) ∙ c .before .before .f .given .1) in
     c .refused2 .ensures
-    ∙ sym (simp (sym (c .before .before .before .before .before .before .before .before .before .bad-length .ensures) ∙ c .before .before .before .before .before .before .before .before .if1 .left) (law.refused-stays s (suc k) (length s / 16) f k (omega (arith, add-one k)) more))
+    ∙ sym (simp (sym (c .before .before .before .before .before .before .before .before .before .bad-length .ensures) ∙ c .before .before .before .before .before .before .before .before .if1 .left) (refused-stays (recordIn s) blankYear (suc k) (length s / 16) f k (omega (arith, add-one k)) more))
 
 add-k : tie.Need-add-k Inv-loop μ-loop
 add-k c = search needs
@@ -106,7 +107,7 @@ loop-again c =
     let k = c .before .before .before .loop .k in
     let y = c .before .before .before .loop .y in
     let more : readTo s (k + 1) ≡ taken y k (c .before .read-record .result) =
-    ap (readTo s) (add-one k) ∙ law.read-more s k y (c .before .before .before .loop .inv .1) ∙ ap (taken y k) (sym (c .before .read-record .ensures)) in
+    ap (readTo s) (add-one k) ∙ gathered-more (recordIn s) blankYear k y (c .before .before .before .loop .inv .1) ∙ ap (taken y k) (sym (c .before .read-record .ensures)) in
     (search needs, ⊎-elim (λ w. more ∙ ap (taken y k) (w .1 .given .1) ∙ ap done (sym (w .3))) (λ w. more ∙ ap (taken y k) (w .1 .given .1) ∙ ap done (sym (w .3))) (c .match .came))
 
 returns-3 : tie.Need-returns-3 Inv-loop μ-loop

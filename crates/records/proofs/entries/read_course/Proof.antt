@@ -1,75 +1,32 @@
--- `read_course`: each refusal is the first test of the definition that fails.
 use borrow.Author.Needs.{needs}
-use Prim.Native.Nat.{_+_}
-use mathlib.Core.Path.{_∙_, sym}
-use native.Mathlib.Omega.{arith}
-use borrow.Author.Tests.{not-true, not-false}
-use Rattle.records.specs.Reading.{courseRecord}
 use Rattle.records.proofs.entries.read_course.Statement.{statement}
 use Rattle.records.proofs.entries.read_course.Tie as tie
+use Rattle.records.proofs.entries.read_course.Reads as reads
+use Rattle.records.proofs.entries.read_course.Lts as lts
+use Rattle.records.proofs.entries.bears_next.Reads as bears-next-reads
+use Rattle.records.proofs.entries.course_by_itself.Reads as course-by-itself-reads
+use mathlib.Core.Path.{_∙_, sym}
+use borrow.Author.Tests.{not-true, not-false}
+use Rattle.records.specs.Reading.{courseRecord}
 
-add-if1 : tie.Need-add-if1
-add-if1 c = search needs
+-- src/entries.rt:104:9
+bears-next-requires : tie.Need-bears-next-requires
+bears-next-requires c κs = search needs
 
-shared-slice-read-if1 : tie.Need-shared-slice-read-if1
-shared-slice-read-if1 c = search needs
-
-cast-if1 : tie.Need-cast-if1
-cast-if1 c = omega (arith, c .shared-slice-known2 .given (c .before .before .args .at + 1))
-
+-- src/entries.rt:105:9
 returns : tie.Need-returns
 unfolding courseRecord
-returns c = simp (c .if1 .taken)
+returns c = simp (sym (c .before .bears-next .ensures) ∙ not-true _ (c .if1 .taken))
 
-word-requires : tie.Need-word-requires
-word-requires c κs = search needs
+-- src/entries.rt:107:5
+course-by-itself-requires : tie.Need-course-by-itself-requires
+course-by-itself-requires c κs = search needs
 
-word-requires-2 : tie.Need-word-requires-2
-word-requires-2 c κs = search needs
-
+-- src/entries.rt:99:1
 returns-2 : tie.Need-returns-2
 unfolding courseRecord
-returns-2 c = rw (← (c .before .before .before .word .ensures .0), ← (c .before .before .word2 .ensures .0)) (simp (c .before .before .before .before .if1 .left, c .if2 .taken))
-
-cast-if3 : tie.Need-cast-if3
-cast-if3 c = search needs
-
-shr-if3 : tie.Need-shr-if3
-shr-if3 c = search needs
-
-returns-3 : tie.Need-returns-3
-unfolding courseRecord
-returns-3 c = rw (← (c .before .before .before .before .word .ensures .0), ← (c .before .before .before .word2 .ensures .0)) (simp (c .before .before .before .before .before .if1 .left, c .before .if2 .left, c .if3 .taken))
-
-blank-from-requires : tie.Need-blank-from-requires
-blank-from-requires c κs = search needs
-
-returns-4 : tie.Need-returns-4
-unfolding courseRecord
-returns-4 c = rw (← (c .before .before .before .before .before .before .word .ensures .0), ← (c .before .before .before .before .before .word2 .ensures .0)) (simp (c .before .before .before .before .before .before .before .if1 .left, c .before .before .before .if2 .left, c .before .before .if3 .left, sym (c .before .blank-from .ensures) ∙ not-true _ (c .if4 .taken)))
-
-cast-t22 : tie.Need-cast-t22
-cast-t22 c = search needs
-
-returns-5 : tie.Need-returns-5
-unfolding courseRecord
-returns-5 c = rw (← (c .before .before .before .before .before .before .word .ensures .0), ← (c .before .before .before .before .before .word2 .ensures .0)) (simp (c .before .before .before .before .before .before .before .if1 .left, c .before .before .before .if2 .left, c .before .before .if3 .left, sym (c .before .blank-from .ensures) ∙ not-false _ (c .if4 .left)))
+returns-2 c = c .course-by-itself .ensures ∙ simp (sym (c .before .before .bears-next .ensures) ∙ not-false _ (c .before .if1 .left))
 
 pub read-course-spec : {M : Type 1} → statement M
 read-course-spec =
-    tie.close
-    (tie.spec
-    add-if1
-    shared-slice-read-if1
-    cast-if1
-    returns
-    word-requires
-    word-requires-2
-    returns-2
-    cast-if3
-    shr-if3
-    returns-3
-    blank-from-requires
-    returns-4
-    cast-t22
-    returns-5)
+    tie.close (tie.spec bears-next-requires returns course-by-itself-requires returns-2)

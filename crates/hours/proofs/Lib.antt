@@ -1,0 +1,3 @@
+-- Laws about hours lists and joining.
+pub mod EntryLaws
+pub mod JoinLaws

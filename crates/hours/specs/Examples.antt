@@ -1,0 +1,1 @@
+-- Closed examples, by computation.

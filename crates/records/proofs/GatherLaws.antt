@@ -1,0 +1,238 @@
+-- Records taken into a year one by one: what holds of the first year and is kept by each record holds of the year at the end; a
+-- refusal is the first fault. What each record is, is left open.
+use Prim.Native.Nat.{ℕ, zero, suc, _+_, _-_, _≤_, _<_}
+use mathlib.Core.Bool.{Bool, true, false}
+use mathlib.Core.Logic.{_⊎_, inl, inr}
+use mathlib.Core.Path.{_≡_, refl, sym, ap, _∙_}
+use native.Mathlib.Nat.{add-zero, add-suc}
+use native.Mathlib.Omega.{arith}
+use native.Mathlib.Decide.{ℕ-discrete}
+use lib.ListN.{length, length-set, length-replicate, getD-replicate}
+use lib.Seq.{getD-set-same, getD-set-other}
+use Rattle.theory.specs.Choice.{choose}
+use Rattle.year.specs.Year.{termAt, courseAt, zeroTerm, zeroCourse, emptyYear}
+use Rattle.year.specs.Sound.{TermSound, CourseSound, Sound}
+use Rattle.year.specs.declared.Term.{Term}
+use Rattle.year.specs.declared.Course.{Course}
+use Rattle.year.specs.declared.Year.{Year}
+use Rattle.records.specs.declared.Fault.{Fault}
+use Rattle.records.specs.declared.Fault.the-variants as fault
+use Rattle.records.specs.declared.Record.{Record}
+use Rattle.records.specs.declared.Record.the-variants.{OfTerm, OfCourse, Faulty}
+use Rattle.records.specs.declared.Reading.{Reading}
+use Rattle.records.specs.declared.Reading.the-variants.{Done, Refused}
+use Rattle.records.specs.declared.Received.{Received}
+use Rattle.records.specs.Reading.{blankYear, addTerm, addCourse, done, refused, taken, onward, gathered}
+
+done-same : (y z : Year) → done y ≡ done z → y ≡ z
+done-same y z e = ap (λ (r : Received). r .year) e
+
+pub is-done : (r : Received) → r .answer ≡ Done → r ≡ done (r .year)
+is-done r e = λ i. record { answer = e i; year = r .year }
+
+module _ (entry : ℕ → Year → Record) (start : Year) where
+  -- ---- the records one by one
+
+  pub gathered-zero : gathered entry start 0 ≡ done start
+  unfolding gathered
+  gathered-zero = refl
+
+  pub gathered-more : (k : ℕ) (y : Year) → gathered entry start k ≡ done y → gathered entry start (suc k) ≡ taken y k (entry k y)
+  unfolding gathered
+  gathered-more k y e = rw e refl
+
+  -- a refusal stays to the end of the list
+  refused-on : (k m : ℕ) (f : Fault) (n : ℕ) → gathered entry start k ≡ refused f n → gathered entry start (k + m) ≡ refused f n
+  unfolding gathered
+  refused-on k zero f n e = rw add-zero e
+  refused-on k (suc m) f n e = rw (add-suc, refused-on k m f n e) refl
+
+  pub refused-stays : (k m : ℕ) (f : Fault) (n : ℕ) → k ≤ m → gathered entry start k ≡ refused f n → gathered entry start m ≡ refused f n
+  refused-stays k m f n h e =
+      let is : k + (m - k) ≡ m = omega arith in
+      rw is at (refused-on k (m - k) f n e)
+
+  -- what is done was done before the last record
+  done-before : (k : ℕ) (z : Year) → gathered entry start (suc k) ≡ done z → gathered entry start k ≡ done (gathered entry start k .year)
+  unfolding gathered
+  done-before k z e = go (gathered entry start k) (gathered entry start k .answer) refl (taken (gathered entry start k .year) k (entry k (gathered entry start k .year))) e
+    where
+      go : (r : Received) (a : Reading) → r .answer ≡ a → (next : Received) → onward r a next ≡ done z → r ≡ done (r .year)
+      go r Done p next e = is-done r p
+      go r (Refused f n) p next e =
+          let q : r .answer ≡ Done = ap (λ (x : Received). x .answer) e in
+          let x : _≡_ {A = ℕ} 0 1 = cc in
+          absurd (omega arith)
+
+  -- ---- the principle
+
+  module _ (P : ℕ → Year → Type 0) (first : P 0 start)
+      (term : (k : ℕ) (y : Year) (t : Term) → P k y → entry k y ≡ OfTerm t → P (suc k) (addTerm y t))
+      (course : (k : ℕ) (y : Year) (c : Course) → P k y → entry k y ≡ OfCourse c → P (suc k) (addCourse y c)) where
+    step : (k : ℕ) (y z : Year) (r : Record) → P k y → entry k y ≡ r → taken y k r ≡ done z → P (suc k) z
+    step k y z (OfTerm t) p q e = rw (sym (done-same (addTerm y t) z e)) (term k y t p q)
+    step k y z (OfCourse c) p q e = rw (sym (done-same (addCourse y c) z e)) (course k y c p q)
+    step k y z (Faulty f) p q e =
+        let a : Refused f k ≡ Done = ap (λ (r : Received). r .answer) e in
+        let x : _≡_ {A = ℕ} 0 1 = cc in
+        absurd (omega arith)
+
+    pub gathered-keeps : (k : ℕ) (y : Year) → gathered entry start k ≡ done y → P k y
+    gathered-keeps zero y e = rw (sym (done-same start y (sym gathered-zero ∙ e))) first
+    gathered-keeps (suc k) z e =
+        let b = done-before k z e in
+        let y = gathered entry start k .year in
+        step k y z (entry k y) (gathered-keeps k y b) refl (sym (gathered-more k y b) ∙ e)
+
+  -- ---- a refusal is the first fault
+
+  -- record k has the fault, and the records before it were taken
+  pub record FirstFault (f : Fault) (k : ℕ) : Type 0 where
+    pub so-far : Year
+    pub taken-before : gathered entry start k ≡ done so-far
+    pub fault-here : entry k so-far ≡ Faulty f
+
+  fault-in : (m : ℕ) (y : Year) (f : Fault) (k : ℕ) → gathered entry start m ≡ done y → (r : Record) → entry m y ≡ r → taken y m r .answer ≡ Refused f k → (k ≤ m) × FirstFault f k
+  fault-in m y f k b (OfTerm t) q e = let x : _≡_ {A = ℕ} 0 1 = cc in absurd (omega arith)
+  fault-in m y f k b (OfCourse c) q e = let x : _≡_ {A = ℕ} 0 1 = cc in absurd (omega arith)
+  fault-in m y f k b (Faulty g) q e =
+      let at : m ≡ k = cc in
+      let of : Faulty g ≡ Faulty f = cc in
+      (omega arith, record { so-far = y; taken-before = rw (sym at) b; fault-here = rw (sym at) (q ∙ of) })
+
+  pub first-fault : (m : ℕ) (f : Fault) (k : ℕ) → gathered entry start m .answer ≡ Refused f k → (k < m) × FirstFault f k
+  unfolding gathered
+  first-fault zero f k e = let x : _≡_ {A = ℕ} 0 1 = cc in absurd (omega arith)
+  first-fault (suc m) f k e = go (gathered entry start m .answer) refl (first-fault m f k)
+    where
+      go : (a : Reading) → gathered entry start m .answer ≡ a → (gathered entry start m .answer ≡ Refused f k → (k < m) × FirstFault f k) → (k < suc m) × FirstFault f k
+      go Done p ih =
+          let y = gathered entry start m .year in
+          let b : gathered entry start m ≡ done y = is-done (gathered entry start m) p in
+          let r = fault-in m y f k b (entry m y) refl (sym (ap (λ (r : Received). r .answer) (gathered-more m y b)) ∙ e) in
+          (omega (arith, r .0), r .1)
+      go (Refused g n) p ih =
+          let r = ih (p ∙ rw p at e) in
+          (omega (arith, r .0), r .1)
+
+  -- and the whole of what is handed back with it
+  pub refused-whole : (m : ℕ) (f : Fault) (k : ℕ) → gathered entry start m .answer ≡ Refused f k → gathered entry start m ≡ refused f k
+  refused-whole m f k e =
+      let r = first-fault m f k e in
+      let here : gathered entry start (suc k) ≡ refused f k = gathered-more k (r .1 .so-far) (r .1 .taken-before) ∙ ap (taken (r .1 .so-far) k) (r .1 .fault-here) in
+      refused-stays (suc k) m f k (omega (arith, r .0)) here
+
+-- ---- a list as a whole
+
+-- refused by its length, or what its n records give
+abbrev pub listed : Bool → (ℕ → Year → Record) → Year → ℕ → Received
+listed bad entry start n = choose bad (refused fault.Length 0) (gathered entry start n)
+
+module _ (bad : Bool) (entry : ℕ → Year → Record) (start : Year) (n : ℕ) where
+  -- done: its length is good, and each record was taken
+  pub listed-done : listed bad entry start n .answer ≡ Done → (bad ≡ false) × (gathered entry start n ≡ done (listed bad entry start n .year))
+  listed-done e = go bad refl e
+    where
+      go : (b : Bool) → bad ≡ b → listed b entry start n .answer ≡ Done → (b ≡ false) × (gathered entry start n ≡ done (listed b entry start n .year))
+      go true p e = let x : _≡_ {A = ℕ} 0 1 = cc in absurd (omega arith)
+      go false p e = (refl, is-done (gathered entry start n) e)
+
+  -- refused: by its length at place 0, or at its first record with a fault; the year is the empty one
+  pub listed-refused : (f : Fault) (k : ℕ) → listed bad entry start n .answer ≡ Refused f k
+      → (listed bad entry start n ≡ refused f k) × (((bad ≡ true) × (f ≡ fault.Length) × (k ≡ 0)) ⊎ ((bad ≡ false) × (k < n) × FirstFault entry start f k))
+  listed-refused f k e = go bad refl e
+    where
+      go : (b : Bool) → bad ≡ b → listed b entry start n .answer ≡ Refused f k
+          → (listed b entry start n ≡ refused f k) × (((b ≡ true) × (f ≡ fault.Length) × (k ≡ 0)) ⊎ ((b ≡ false) × (k < n) × FirstFault entry start f k))
+      go true p e =
+          let x : f ≡ fault.Length = cc in
+          let y : k ≡ 0 = cc in
+          (λ i. record { answer = e i; year = emptyYear }, inl (refl, x, y))
+      go false p e = let r = first-fault entry start n f k e in (refused-whole entry start n f k e, inr (refl, r .0, r .1))
+
+-- ---- a year in the making
+
+-- all that is asked of a sound year, but that it may have no term yet
+pub record Begun (y : Year) : Type 0 where
+  pub terms-most : y .terms ≤ 16
+  pub courses-most : y .courses ≤ 64
+  pub term-length : length (y .term) ≡ 16
+  pub course-length : length (y .course) ≡ 64
+  pub term-sound : (j : ℕ) → j < y .terms → TermSound (termAt y j)
+  pub course-sound : (i : ℕ) → i < y .courses → CourseSound (courseAt y i) (y .terms)
+  pub term-blank : (j : ℕ) → y .terms ≤ j → j < 16 → termAt y j ≡ zeroTerm
+  pub course-blank : (i : ℕ) → y .courses ≤ i → i < 64 → courseAt y i ≡ zeroCourse
+
+pub begun-blank : Begun blankYear
+begun-blank = record {
+  terms-most = omega arith;
+  courses-most = omega arith;
+  term-length = length-replicate 16 zeroTerm;
+  course-length = length-replicate 64 zeroCourse;
+  term-sound = λ j h. absurd (omega arith);
+  course-sound = λ i h. absurd (omega arith);
+  term-blank = λ j h m. getD-replicate 16 j zeroTerm zeroTerm m;
+  course-blank = λ i h m. getD-replicate 64 i zeroCourse zeroCourse m;
+}
+
+-- one term more, which is sound and for which there is room, while there is no course
+module _ (y : Year) (t : Term) (b : Begun y) (room : y .terms < 16) where
+  pub term-added : (j : ℕ) → j ≡ y .terms → termAt (addTerm y t) j ≡ t
+  term-added j q = rw q (getD-set-same (y .term) (y .terms) t zeroTerm (omega (arith, b .term-length)))
+
+  pub term-before : (j : ℕ) → (j ≡ y .terms → ⊥) → termAt (addTerm y t) j ≡ termAt y j
+  term-before j d = getD-set-other (y .term) (y .terms) j t zeroTerm d
+
+  pub begun-term : TermSound t → y .courses ≡ 0 → Begun (addTerm y t)
+  begun-term s none = record {
+    terms-most = omega arith;
+    courses-most = b .courses-most;
+    term-length = length-set (y .term) (y .terms) t ∙ b .term-length;
+    course-length = b .course-length;
+    term-sound = λ j h. sound j h (ℕ-discrete j (y .terms));
+    course-sound = λ i h. absurd (omega arith);
+    term-blank = λ j h m. term-before j (λ q. omega arith) ∙ b .term-blank j (omega arith) m;
+    course-blank = b .course-blank;
+  }
+    where
+      sound : (j : ℕ) → j < y .terms + 1 → Dec (j ≡ y .terms) → TermSound (termAt (addTerm y t) j)
+      sound j h (yes q) = rw (term-added j q) s
+      sound j h (no d) = rw (term-before j d) (b .term-sound j (omega (arith, d)))
+
+-- one course more, which is sound beside the terms and for which there is room
+module _ (y : Year) (c : Course) (b : Begun y) (room : y .courses < 64) where
+  pub course-added : (i : ℕ) → i ≡ y .courses → courseAt (addCourse y c) i ≡ c
+  course-added i q = rw q (getD-set-same (y .course) (y .courses) c zeroCourse (omega (arith, b .course-length)))
+
+  pub course-before : (i : ℕ) → (i ≡ y .courses → ⊥) → courseAt (addCourse y c) i ≡ courseAt y i
+  course-before i d = getD-set-other (y .course) (y .courses) i c zeroCourse d
+
+  pub begun-course : CourseSound c (y .terms) → Begun (addCourse y c)
+  begun-course s = record {
+    terms-most = b .terms-most;
+    courses-most = omega arith;
+    term-length = b .term-length;
+    course-length = length-set (y .course) (y .courses) c ∙ b .course-length;
+    term-sound = b .term-sound;
+    course-sound = λ i h. sound i h (ℕ-discrete i (y .courses));
+    term-blank = b .term-blank;
+    course-blank = λ i h m. course-before i (λ q. omega arith) ∙ b .course-blank i (omega arith) m;
+  }
+    where
+      sound : (i : ℕ) → i < y .courses + 1 → Dec (i ≡ y .courses) → CourseSound (courseAt (addCourse y c) i) (y .terms)
+      sound i h (yes q) = rw (course-added i q) s
+      sound i h (no d) = rw (course-before i d) (b .course-sound i (omega (arith, d)))
+
+-- with a term it is sound
+pub begun-sound : (y : Year) → Begun y → 1 ≤ y .terms → Sound y
+begun-sound y b some = record {
+  terms-least = some;
+  terms-most = b .terms-most;
+  courses-most = b .courses-most;
+  term-length = b .term-length;
+  course-length = b .course-length;
+  term-sound = b .term-sound;
+  course-sound = b .course-sound;
+  term-blank = b .term-blank;
+  course-blank = b .course-blank;
+}
