@@ -1,6 +1,6 @@
 -- The calls on byte lists: what each tells, its code, and what it leaves in the lent buffer.
 -- Refusals come in rising number: reading's, then 9, then the call's own.
-use Prim.Native.Nat.{ℕ}
+use Prim.Native.Nat.{ℕ, _+_}
 use mathlib.Core.List.{List}
 use lib.Dec.{eqb, ltb}
 use lib.ListN.{length}
@@ -15,10 +15,13 @@ use Rattle.records.specs.Reading.{readList}
 use Rattle.records.specs.Writing.{written}
 use Rattle.records.specs.declared.Reading.{Reading}
 use Rattle.records.specs.declared.Reading.the-variants as reading
+use Rattle.hours.specs.Joining.{joinOf}
+use Rattle.hours.specs.declared.Joining.{Joining}
+use Rattle.hours.specs.declared.Joining.the-variants as joining
 use Rattle.filter.specs.Filter.{filterOf}
 use Rattle.filter.specs.declared.Answer.{Answer}
 use Rattle.filter.specs.declared.Answer.the-variants.{Settled, Open, NoPlan, Unsound}
-use Rattle.boundary.specs.Packed.{Told, packed, readingTold, shortTold, narrowingTold, measuredTold, answerTold}
+use Rattle.boundary.specs.Packed.{Told, packed, readingTold, joiningTold, shortTold, narrowingTold, measuredTold, answerTold}
 
 -- what a call itself tells where the list was read, otherwise what reading tells
 abbrev pub whenRead : Reading → Told → Told
@@ -105,3 +108,28 @@ narrowOut s kind a b out =
     (choose (ltb (length out) (length s)) out
     (narrowLeft (narrowOf (readList s .year) kind a b .answer) (narrowOf (readList s .year) kind a b .year) out))
     out
+
+-- ---- join
+
+-- what the call itself tells, or leaves in the buffer b, where both lists were taken; otherwise what the joining tells, and b
+abbrev pub whenJoined : Joining → Told → Told
+whenJoined joining.Done own = own
+whenJoined (joining.InTerms f k) own = joiningTold (joining.InTerms f k)
+whenJoined (joining.InHours f k) own = joiningTold (joining.InHours f k)
+
+abbrev pub leftWhenJoined : Joining → List ℕ → List ℕ → List ℕ
+leftWhenJoined joining.Done own b = own
+leftWhenJoined (joining.InTerms f k) own b = b
+leftWhenJoined (joining.InHours f k) own b = b
+
+-- the terms' list, the hours list, and the length of the buffer, which is to hold as many bytes as both
+abbrev pub joinTold : List ℕ → List ℕ → ℕ → Told
+joinTold t h room = whenJoined (joinOf t h .answer) (whenRoom room (length t + length h) (joiningTold joining.Done))
+
+unfoldable pub joinCode : List ℕ → List ℕ → ℕ → ℕ
+joinCode t h room = packed (joinTold t h room)
+
+-- the two lists and the buffer
+unfoldable pub joinOut : List ℕ → List ℕ → List ℕ → List ℕ
+joinOut t h b =
+    leftWhenJoined (joinOf t h .answer) (choose (ltb (length b) (length t + length h)) b (written (joinOf t h .year) b)) b

@@ -10,17 +10,19 @@ use Rattle.year.specs.Imbalance.{onePlan, imbalanceOf}
 use Rattle.year.specs.Examples.{yearOf, settledE, crowdedE, loaded, heaped}
 use Rattle.year.specs.declared.Term.{Term}
 use Rattle.year.specs.declared.Course.{Course}
-use Rattle.records.specs.Reading.{termRecord, courseRecord, recordAt, readTo, readList}
 use Rattle.records.specs.Writing.{joined, recordsOf, written}
 use Rattle.records.specs.Examples.{bytesE, padded}
+use Rattle.records.specs.Computing.{computing as computingReading}
+use Rattle.hours.specs.Computing.{computing as computingJoining}
+use Rattle.hours.specs.Examples.{termsE, hoursE}
 use Rattle.filter.specs.Computing.{computing as computingFilter}
-use Rattle.boundary.specs.Calls.{readCode, imbalanceCode, filterCode, filterOut, narrowOf, narrowCode, narrowOut}
+use Rattle.boundary.specs.Calls.{readCode, imbalanceCode, filterCode, filterOut, narrowOf, narrowCode, narrowOut, joinCode, joinOut}
 
 -- all that a call is computed by
 unfoldable computing : Unit {0}
-unfolding computingFilter readList readTo recordAt termRecord courseRecord recordsOf joined written readCode imbalanceCode filterCode
-    filterOut narrowOf narrowCode narrowOut placeOf barOf raiseLowCreditsOf lowerHighCreditsOf raiseLowCountOf lowerHighCountOf
-    imbalanceOf onePlan
+unfolding computingReading computingFilter computingJoining recordsOf joined written readCode imbalanceCode filterCode filterOut narrowOf
+    narrowCode narrowOut placeOf barOf raiseLowCreditsOf lowerHighCreditsOf raiseLowCountOf lowerHighCountOf imbalanceOf onePlan joinCode
+    joinOut
 computing = tt
 
 -- ---- lists and buffers
@@ -145,3 +147,33 @@ imbalances : (imbalanceCode (recordsOf settledE) ≡ 1 * 65536)
     × (imbalanceCode refusedE ≡ 7 + 4 * 65536)
 unfolding computing
 imbalances = (refl, refl, refl, refl, refl, refl)
+
+-- ---- join
+
+-- done: the records of year E, as long as both lists; the byte behind them stays
+join-done : (joinCode termsE hoursE 80 ≡ 0) × (joinOut termsE hoursE (buffer 81) ≡ bytesE ++ buffer 1)
+unfolding computing
+join-done = (refl, refl)
+
+-- an empty hours list: the terms, byte for byte
+join-no-hours : (joinCode termsE [] 32 ≡ 0) × (joinOut termsE [] (buffer 33) ≡ termsE ++ buffer 1)
+unfolding computing
+join-no-hours = (refl, refl)
+
+-- the detail says which list is at fault, the value the place in it: a course behind the terms; an edition; no terms at all
+join-refused : (joinCode bytesE hoursE 80 ≡ 2 + 1 * 256 + 2 * 65536)
+    × (joinCode termsE (set hoursE 34 3) 80 ≡ 4 + 2 * 256 + 2 * 65536)
+    × (joinCode [] hoursE 80 ≡ 1 + 1 * 256)
+    × (joinCode termsE (take 17 hoursE) 80 ≡ 1 + 2 * 256)
+    × (joinOut bytesE hoursE (buffer 81) ≡ buffer 81)
+    × (joinOut termsE (set hoursE 34 3) (buffer 81) ≡ buffer 81)
+unfolding computing
+join-refused = (refl, refl, refl, refl, refl, refl)
+
+-- 9, one byte short of both lists; a refusal of either is told before it
+join-short : (joinCode termsE hoursE 79 ≡ 9)
+    × (joinOut termsE hoursE (buffer 79) ≡ buffer 79)
+    × (joinCode bytesE hoursE 0 ≡ 2 + 1 * 256 + 2 * 65536)
+    × (joinCode termsE (set hoursE 34 3) 0 ≡ 4 + 2 * 256 + 2 * 65536)
+unfolding computing
+join-short = (refl, refl, refl, refl)

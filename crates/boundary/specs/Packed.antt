@@ -6,6 +6,8 @@ use Rattle.year.specs.Numbers.{narrowingNumber, imbalanceNumber, imbalanceValue
 use Rattle.records.specs.declared.Reading.{Reading}
 use Rattle.records.specs.declared.Writing.the-variants as writing
 use Rattle.records.specs.Numbers.{readingNumber, readingPlace, writingNumber}
+use Rattle.hours.specs.declared.Joining.{Joining}
+use Rattle.hours.specs.Numbers.{joiningNumber, joiningList, joiningPlace}
 use Rattle.filter.specs.declared.Answer.{Answer}
 use Rattle.filter.specs.declared.Answer.the-variants.{Settled, Open, NoPlan, Unsound}
 use Rattle.filter.specs.Numbers.{filterNumber, filterRounds}
@@ -33,6 +35,10 @@ apart c = told (c % 256) (c / 256 % 256) (c / 65536)
 -- value: the place of the refused record
 abbrev pub readingTold : Reading → Told
 readingTold a = told (readingNumber a) 0 (readingPlace a)
+
+-- detail: 1 where the terms' list is at fault, 2 where the hours list is; value: the place of the refused record in it
+abbrev pub joiningTold : Joining → Told
+joiningTold a = told (joiningNumber a) (joiningList a) (joiningPlace a)
 
 -- the buffer is shorter than the list, which is as long as the records to be written
 abbrev pub shortTold : Told

@@ -1,5 +1,6 @@
 // Answers packed into one number.
 use filter::Answer;
+use hours::Joining;
 use records::Fault;
 use records::Reading;
 use year::Measured;
@@ -11,7 +12,8 @@ ghost use Rattle.year.specs.Imbalance.{imbalanceOf};
 ghost use Rattle.year.specs.Sound.{Sound};
 ghost use Rattle.records.specs.Numbers.{readingPlace};
 ghost use Rattle.records.specs.declared.Reading.the-variants as reading;
-ghost use Rattle.boundary.specs.Packed.{told, packed, readingTold, narrowingTold, measuredTold, answerDetail, answerTold};
+ghost use Rattle.hours.specs.Numbers.{joiningPlace};
+ghost use Rattle.boundary.specs.Packed.{told, packed, readingTold, joiningTold, narrowingTold, measuredTold, answerDetail, answerTold};
 
 // The answer to a buffer that is too short.
 pub const SHORT: u64 = 9;
@@ -39,6 +41,17 @@ pub fn reading(a: Reading) -> u64
     match a {
         Reading::Done => 0,
         Reading::Refused(f, k) => refused(f, k),
+    }
+}
+
+pub fn joining(a: Joining) -> u64
+    requires { ⌜ joiningPlace a < 4294967296 ⌝ }
+    ensures { λ r. ⌜ r ≡ packed (joiningTold a) ⌝ }
+{
+    match a {
+        Joining::Done => 0,
+        Joining::InTerms(f, k) => pack(records::fault_number(f) as u64, 1, k as u64),
+        Joining::InHours(f, k) => pack(records::fault_number(f) as u64, 2, k as u64),
     }
 }
 

@@ -28,6 +28,7 @@ use Rattle.records.proofs.ListLaws.{length-good}
 use Rattle.hours.specs.declared.Joining.{Joining}
 use Rattle.hours.specs.declared.Joining.the-variants.{Done, InTerms, InHours}
 use Rattle.hours.specs.declared.Joined.{Joined}
+use Rattle.hours.specs.Numbers.{joiningPlace}
 use Rattle.hours.specs.Entries.{hoursRecord, termAlone}
 use Rattle.hours.specs.Joining.{termEntry, termList, hoursEntry, badHours, hoursList, inHours, withHours, behindTerms, joinOf}
 use Rattle.hours.proofs.EntryLaws.{alone-read, HoursHeld, HoursRead, hours-read}
@@ -161,3 +162,71 @@ module _ (t h : List ℕ) (front : Received) (is : front ≡ termList t) where
   -- the terms leave room for the bits of a list
   pub terms-few : front .answer ≡ reading.Done → front .year .terms ≤ 16
   terms-few e = rw is (terms-done t (sym (ap (λ (r : Received). r .answer) is) ∙ e) .0 .begun .terms-most)
+
+-- how a joining ends: refused in the terms' list, or as the hours list behind its year
+module _ (t h : List ℕ) where
+  data Ends : Joined → Type 0 where
+    in-terms : (f : Fault) (k : ℕ) → termList t .answer ≡ reading.Refused f k → Ends (record { answer = InTerms f k; year = termList t .year })
+    behind : termList t .answer ≡ reading.Done → Ends (withHours (termList t .year) h)
+
+  ends : Ends (joinOf t h)
+  unfolding joinOf
+  ends = go (termList t .answer) refl
+    where
+      go : (a : Reading) → termList t .answer ≡ a → Ends (behindTerms (termList t) a h)
+      go reading.Done p = behind p
+      go (reading.Refused f k) p = in-terms f k p
+
+-- the year of both lists
+pub record Joint (t h : List ℕ) (y : Year) : Type 0 where
+  pub sound : Sound y
+  pub term-bytes : y .terms * 16 ≡ length t
+  pub course-bytes : y .courses * 16 ≡ length h
+  pub each-term : (j : ℕ) → j < y .terms → TermHeld t (j * 16) (termAt y j)
+  pub each-course : (i : ℕ) → i < y .courses → HoursHeld h (i * 16) (y .terms) (courseAt y i)
+
+pub joint : (t h : List ℕ) → joinOf t h .answer ≡ Done → Joint t h (joinOf t h .year)
+joint t h = go (joinOf t h) (ends t h)
+  where
+    listed : (a : Reading) → inHours a ≡ Done → a ≡ reading.Done
+    listed reading.Done e = refl
+    listed (reading.Refused f k) e = let x : _≡_ {A = ℕ} 0 1 = cc in absurd (omega arith)
+
+    go : (j : Joined) → Ends t h j → j .answer ≡ Done → Joint t h (j .year)
+    go j (in-terms f k p) e = let x : _≡_ {A = ℕ} 0 1 = cc in absurd (omega arith)
+    go j (behind p) e =
+        let y = termList t .year in
+        let z = hoursList y h .year in
+        let r = terms-done t p in
+        let q = hours-done y h (r .0 .begun) (r .0 .no-course) (listed (hoursList y h .answer) e) in
+        let many : z .terms ≡ length t / 16 = q .1 .0 ∙ r .0 .count in
+        record {
+          sound = begun-sound z (q .0 .begun) (omega (arith, r .1, many));
+          term-bytes = ap (λ (n : ℕ). n * 16) many ∙ r .2;
+          course-bytes = ap (λ (n : ℕ). n * 16) (q .0 .count) ∙ q .2;
+          each-term = λ j l. rw (q .1 .1) (r .0 .each j (omega (arith, many)));
+          each-course = λ i l. rw (q .1 .0) (q .0 .each i (omega (arith, q .0 .count)));
+        }
+
+-- refused, the year is the empty one; the place is one of a record, or 0
+pub unjoined : (t h : List ℕ) → (joinOf t h .answer ≡ Done → ⊥) → joinOf t h .year ≡ emptyYear
+unjoined t h = go (joinOf t h) (ends t h)
+  where
+    by : (y : Year) (a : Reading) → hoursList y h .answer ≡ a → (inHours a ≡ Done → ⊥) → hoursList y h .year ≡ emptyYear
+    by y reading.Done e n = absurd (n refl)
+    by y (reading.Refused f k) e n = hours-refused y h f k e .0
+
+    go : (j : Joined) → Ends t h j → (j .answer ≡ Done → ⊥) → j .year ≡ emptyYear
+    go j (in-terms f k p) n = terms-refused t f k p .0
+    go j (behind p) n = by (termList t .year) (hoursList (termList t .year) h .answer) refl n
+
+pub place-few : (t h : List ℕ) → joiningPlace (joinOf t h .answer) ≤ 80
+place-few t h = go (joinOf t h) (ends t h)
+  where
+    by : (y : Year) (a : Reading) → hoursList y h .answer ≡ a → joiningPlace (inHours a) ≤ 80
+    by y reading.Done e = omega arith
+    by y (reading.Refused f k) e = hours-refused y h f k e .1
+
+    go : (j : Joined) → Ends t h j → joiningPlace (j .answer) ≤ 80
+    go j (in-terms f k p) = terms-refused t f k p .1
+    go j (behind p) = by (termList t .year) (hoursList (termList t .year) h .answer) refl

@@ -2,10 +2,10 @@
 use mathlib.Core.Path.{refl}
 use Rattle.year.specs.Narrow.{barOf}
 use Rattle.year.specs.Imbalance.{onePlan, imbalanceOf}
-use Rattle.records.specs.Reading.{termRecord, courseRecord, recordAt, readTo, readList}
+use Rattle.records.specs.Computing.{computing as computingReading}
 use Rattle.filter.specs.Computing.{computing}
 use Rattle.promises.specs.Table.{TableHolds}
 
 pub table-holds : TableHolds
-unfolding computing barOf onePlan imbalanceOf termRecord courseRecord recordAt readTo readList
+unfolding computing computingReading barOf onePlan imbalanceOf
 table-holds = (refl, (refl, (refl, (refl, (refl, (refl, (refl, (refl, (refl, (refl, (refl, (refl, tt))))))))))))

@@ -12,8 +12,9 @@ use Rattle.records.specs.declared.Fault.the-variants as fault
 use Rattle.records.specs.declared.Record.the-variants.{OfCourse, Faulty}
 use Rattle.records.specs.declared.Writing.the-variants.{Done, Unsound, Short}
 use Rattle.records.specs.Numbers.{readingNumber, readingPlace}
-use Rattle.records.specs.Reading.{termByItself, courseBy, termRecord, courseRecord, recordAt, blankYear, done, gathered, readList}
+use Rattle.records.specs.Reading.{recordAt, blankYear, done, readList}
 use Rattle.records.specs.Writing.{joined, recordsOf, writeAnswer, written}
+use Rattle.records.specs.Computing.{computing}
 
 -- ---- lists
 
@@ -22,15 +23,15 @@ abbrev pub padded : List ℕ → List ℕ
 padded l = l ++ replicate (16 - length l) 0
 
 -- term 0 with its four bounds
-abbrev firstTerm : ℕ → ℕ → ℕ → ℕ → List ℕ
+abbrev pub firstTerm : ℕ → ℕ → ℕ → ℕ → List ℕ
 firstTerm low high least most =
     padded (84 ∷ 0 ∷ low / 256 ∷ low % 256 ∷ high / 256 ∷ high % 256 ∷ least / 256 ∷ least % 256 ∷ most / 256 ∷ most % 256 ∷ [])
 
 -- a term with no bounds but 0, and a course of weight w that lists term 0
-abbrev plainTerm : ℕ → List ℕ
+abbrev pub plainTerm : ℕ → List ℕ
 plainTerm n = padded (84 ∷ n ∷ [])
 
-abbrev plainCourse : ℕ → ℕ → List ℕ
+abbrev pub plainCourse : ℕ → ℕ → List ℕ
 plainCourse n w = padded (67 ∷ n ∷ w / 256 ∷ w % 256 ∷ 0 ∷ 1 ∷ [])
 
 -- the number and the place of an answer
@@ -48,7 +49,7 @@ bytesE =
     ++ padded (67 ∷ 2 ∷ 0 ∷ 2 ∷ 0 ∷ 3 ∷ [])
 
 pub year-e-read : readList bytesE ≡ done yearE
-unfolding readList gathered recordAt termRecord termByItself courseRecord courseBy all
+unfolding computing
 year-e-read = refl
 
 pub year-e-records : recordsOf yearE ≡ bytesE
@@ -74,34 +75,34 @@ pub weights : (told (plainTerm 0 ++ plainCourse 0 0) ≡ (4, 1))
     × (told (plainTerm 0 ++ plainCourse 0 1) ≡ (0, 0))
     × (told (plainTerm 0 ++ plainCourse 0 1000) ≡ (0, 0))
     × (told (plainTerm 0 ++ plainCourse 0 1001) ≡ (4, 1))
-unfolding readList gathered recordAt termRecord termByItself courseRecord courseBy all
+unfolding computing
 weights = (refl, refl, refl, refl)
 
 -- credits of up to 64,000, low and high
 pub credits : (told (firstTerm 64000 64000 0 0) ≡ (0, 0))
     × (told (firstTerm 0 64001 0 0) ≡ (4, 0))
     × (told (firstTerm 64001 64000 0 0) ≡ (4, 0))
-unfolding readList gathered recordAt termRecord termByItself courseRecord courseBy all
+unfolding computing
 credits = (refl, refl, refl)
 
 -- a count of up to 64, low and high
 pub counts : (told (firstTerm 0 0 64 64) ≡ (0, 0)) × (told (firstTerm 0 0 0 65) ≡ (4, 0)) × (told (firstTerm 0 0 65 64) ≡ (4, 0))
-unfolding readList gathered recordAt termRecord termByItself courseRecord courseBy all
+unfolding computing
 counts = (refl, refl, refl)
 
 -- a low bound of up to its high bound, of credits and of counts
 pub orders : (told (firstTerm 7 7 2 2) ≡ (0, 0)) × (told (firstTerm 8 7 2 2) ≡ (5, 0)) × (told (firstTerm 7 7 3 2) ≡ (5, 0))
-unfolding readList gathered recordAt termRecord termByItself courseRecord courseBy all
+unfolding computing
 orders = (refl, refl, refl)
 
 -- sixteen terms
 pub terms : (told (joined plainTerm 16) ≡ (0, 0)) × (told (joined plainTerm 17) ≡ (3, 16))
-unfolding readList gathered recordAt termRecord termByItself courseRecord courseBy all joined
+unfolding computing joined
 terms = (refl, refl)
 
 -- 64 courses: the last behind 63, and one more behind 64
 pub courses : (recordAt (plainCourse 63 1) 0 1 63 ≡ OfCourse (courseOf 1 1)) × (recordAt (plainCourse 64 1) 0 1 64 ≡ Faulty fault.Number)
-unfolding recordAt courseRecord courseBy all
+unfolding computing
 courses = (refl, refl)
 
 -- lists of the year's terms: all sixteen of sixteen, but not of fifteen; of one term, none and another
@@ -109,31 +110,31 @@ pub term-lists : (told (joined plainTerm 16 ++ padded (67 ∷ 0 ∷ 0 ∷ 1 ∷ 
     × (told (joined plainTerm 15 ++ padded (67 ∷ 0 ∷ 0 ∷ 1 ∷ 255 ∷ 255 ∷ [])) ≡ (6, 15))
     × (told (plainTerm 0 ++ padded (67 ∷ 0 ∷ 0 ∷ 1 ∷ [])) ≡ (6, 1))
     × (told (plainTerm 0 ++ padded (67 ∷ 0 ∷ 0 ∷ 1 ∷ 0 ∷ 2 ∷ [])) ≡ (6, 1))
-unfolding readList gathered recordAt termRecord termByItself courseRecord courseBy all joined
+unfolding computing joined
 term-lists = (refl, refl, refl, refl)
 
 -- 1,280 bytes: as many zeros are refused by their letter, and one record more by the length
 pub longest : (told (replicate 1280 0) ≡ (2, 0)) × (told (replicate 1296 0) ≡ (1, 0))
-unfolding readList gathered recordAt
+unfolding computing
 longest = (refl, refl)
 
 -- ---- each refusal
 
 -- 1: empty, no multiple of 16; the year handed back
 pub lengths : (told [] ≡ (1, 0)) × (told (replicate 15 0) ≡ (1, 0)) × (readList [] .year ≡ emptyYear)
-unfolding readList
+unfolding computing
 lengths = (refl, refl, refl)
 
 -- 2: no letter, a course first, a term behind a course
 pub letters : (told (replicate 16 0) ≡ (2, 0))
     × (told (plainCourse 0 1) ≡ (2, 0))
     × (told (plainTerm 0 ++ plainCourse 0 1 ++ plainTerm 1) ≡ (2, 2))
-unfolding readList gathered recordAt termRecord termByItself courseRecord courseBy all
+unfolding computing
 letters = (refl, refl, refl)
 
 -- 3: not the next of its kind
 pub numbers : (told (plainTerm 1) ≡ (3, 0)) × (told (plainTerm 0 ++ plainCourse 1 1) ≡ (3, 1))
-unfolding readList gathered recordAt termRecord termByItself courseRecord courseBy all
+unfolding computing
 numbers = (refl, refl)
 
 -- 7: the first and the last byte that must be zero, of a term and of a course
@@ -141,17 +142,17 @@ pub zeros : (told (84 ∷ replicate 9 0 ++ 1 ∷ replicate 5 0) ≡ (7, 0))
     × (told (84 ∷ replicate 14 0 ++ 1 ∷ []) ≡ (7, 0))
     × (told (plainTerm 0 ++ padded (67 ∷ 0 ∷ 0 ∷ 1 ∷ 0 ∷ 1 ∷ 1 ∷ [])) ≡ (7, 1))
     × (told (plainTerm 0 ++ 67 ∷ 0 ∷ 0 ∷ 1 ∷ 0 ∷ 1 ∷ replicate 9 0 ++ 1 ∷ []) ≡ (7, 1))
-unfolding readList gathered recordAt termRecord termByItself courseRecord courseBy all
+unfolding computing
 zeros = (refl, refl, refl, refl)
 
 -- ---- two faults at once
 
 -- within a record the lower number: a count too large beside crossed credits; a weight of 0 beside an empty list
 pub within : (told (firstTerm 1 0 0 65) ≡ (4, 0)) × (told (plainTerm 0 ++ padded (67 ∷ 0 ∷ [])) ≡ (4, 1))
-unfolding readList gathered recordAt termRecord termByItself courseRecord courseBy all
+unfolding computing
 within = (refl, refl)
 
 -- between records the earlier one: a byte that must be zero before a bad letter
 pub between : told (84 ∷ replicate 14 0 ++ 1 ∷ [] ++ replicate 16 0) ≡ (7, 0)
-unfolding readList gathered recordAt termRecord termByItself courseRecord courseBy all
+unfolding computing
 between = refl

@@ -49,7 +49,7 @@ mul-hours-record c = search needs
 
 -- src/lists.rt:61:15
 hours-record-requires : tie.Need-hours-record-requires Inv-loop μ-loop
-hours-record-requires c κs = 
+hours-record-requires c κs =
     let b = c .before in
     let a = b .before .before .before .before in
     (omega arith, omega (arith, a .pre, terms-same (a .args .y) (a .args .s .now) (b .loop .k) (b .loop .z) (b .loop .inv .1) .0))
@@ -81,7 +81,7 @@ refused-requires-2 c κs = search needs
 -- src/lists.rt:68:17
 returns-2 : tie.Need-returns-2 Inv-loop μ-loop
 unfolding hoursList
-returns-2 c = 
+returns-2 c =
     let b = c .before .before .before .before .before .before in
     let a = b .before .before .before .before .args in
     let s = a .s .now in
@@ -102,7 +102,7 @@ loop-less c = search needs
 
 -- src/lists.rt:60:5
 loop-again : tie.Need-loop-again Inv-loop μ-loop
-loop-again c = 
+loop-again c =
     let b = c .before .before .before .before .before in
     let a = b .before .before .before .before .args in
     let s = a .s .now in
@@ -112,7 +112,7 @@ loop-again c =
 -- src/lists.rt:51:1
 returns-3 : tie.Need-returns-3 Inv-loop μ-loop
 unfolding hoursList
-returns-3 c = 
+returns-3 c =
     let a = c .before .before .before .before .before .args in
     let s = a .s .now in
     let is : c .before .loop .k ≡ length s / 16 = omega arith in

@@ -82,7 +82,7 @@ refused-requires-2 c κs = search needs
 -- src/lists.rt:34:17
 returns-2 : tie.Need-returns-2 Inv-loop μ-loop
 unfolding termList
-returns-2 c = 
+returns-2 c =
     let b = c .before .before .before .before .before .before in
     let s = b .before .before .before .before .before .args .s .now in
     let k = b .loop .k in
@@ -103,7 +103,7 @@ loop-less c = search needs
 
 -- src/lists.rt:26:5
 loop-again : tie.Need-loop-again Inv-loop μ-loop
-loop-again c = 
+loop-again c =
     let b = c .before .before .before .before .before in
     let s = b .before .before .before .before .before .args .s .now in
     let k = b .loop .k in
@@ -113,7 +113,7 @@ loop-again c =
 -- src/lists.rt:18:1
 returns-3 : tie.Need-returns-3 Inv-loop μ-loop
 unfolding termList
-returns-3 c = 
+returns-3 c =
     let s = c .before .before .before .before .before .before .args .s .now in
     let is : c .before .loop .k ≡ length s / 16 = omega arith in
     sym (simp (sym (c .before .before .before .before .bad-length .ensures) ∙ c .before .before .before .if1 .left) (ap (gathered (termEntry s) blankYear) (sym is) ∙ c .before .loop .inv .1))

@@ -20,7 +20,7 @@ in-hours-requires c κs = search needs
 
 -- src/lists.rt:88:1
 returns : tie.Need-returns
-returns c = 
+returns c =
     let r = c .before .before .read-hours .result in
     let joined : Received → Joined = λ x. record { answer = inHours (x .answer); year = x .year } in
     (λ i. record { answer = c .in-hours .ensures i; year = r .year }) ∙ ap joined (c .before .before .read-hours .ensures)
