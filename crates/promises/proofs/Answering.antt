@@ -11,11 +11,13 @@ use Rattle.totals.proofs.measure.imbalance.Met as imbalance-call
 use Rattle.records.proofs.read.Met as read-call
 use Rattle.records.proofs.fault_number.Met as fault-number-call
 use Rattle.records.proofs.write.Met as write-call
+use Rattle.hours.proofs.join.Met as join-call
 use Rattle.filter.proofs.filter.Met as filter-call
 use Rattle.boundary.proofs.turfsteeple_read.Met as turfsteeple-read-call
 use Rattle.boundary.proofs.turfsteeple_filter.Met as turfsteeple-filter-call
 use Rattle.boundary.proofs.turfsteeple_narrow.Met as turfsteeple-narrow-call
 use Rattle.boundary.proofs.turfsteeple_imbalance.Met as turfsteeple-imbalance-call
+use Rattle.boundary.proofs.turfsteeple_join.Met as turfsteeple-join-call
 use Rattle.display.proofs.listing.Met as listing-call
 use Rattle.display.proofs.front.Met as front-call
 use Rattle.promises.specs.Answering.{EachAnswers}
@@ -34,11 +36,13 @@ each-answers M = record {
   read = read-call.met;
   fault-number = fault-number-call.met;
   write = write-call.met;
+  join = join-call.met;
   filter = filter-call.met;
   turfsteeple-read = turfsteeple-read-call.met;
   turfsteeple-filter = turfsteeple-filter-call.met;
   turfsteeple-narrow = turfsteeple-narrow-call.met;
   turfsteeple-imbalance = turfsteeple-imbalance-call.met;
+  turfsteeple-join = turfsteeple-join-call.met;
   listing = listing-call.met;
   front = front-call.met;
 }

@@ -23,11 +23,13 @@ one-result = record {
   read = λ κs. by-one _;
   fault-number = λ κs. record { asks-nothing = λ a. tt; one-end = λ a r s e f p q. p .0 ∙ sym (q .0) };
   write = λ κs. by-two _ _ _;
+  join = λ κs. by-one _;
   filter = λ κs. by-one _;
   turfsteeple-read = λ κs. by-one _;
   turfsteeple-filter = λ κs. by-two _ _ _;
   turfsteeple-narrow = λ κs. by-two _ _ _;
   turfsteeple-imbalance = λ κs. by-one _;
+  turfsteeple-join = λ κs. by-two _ _ _;
   listing = λ κs. by-two _ _ _;
   front = λ κs. record { asks-nothing = λ a. tt; one-end = λ a r s e f p q. p ∙ sym q };
 }

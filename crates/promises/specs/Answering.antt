@@ -12,11 +12,13 @@ use Rattle.totals.proofs.measure.imbalance.Statement as imbalance-call
 use Rattle.records.proofs.read.Statement as read-call
 use Rattle.records.proofs.fault_number.Statement as fault-number-call
 use Rattle.records.proofs.write.Statement as write-call
+use Rattle.hours.proofs.join.Statement as join-call
 use Rattle.filter.proofs.filter.Statement as filter-call
 use Rattle.boundary.proofs.turfsteeple_read.Statement as turfsteeple-read-call
 use Rattle.boundary.proofs.turfsteeple_filter.Statement as turfsteeple-filter-call
 use Rattle.boundary.proofs.turfsteeple_narrow.Statement as turfsteeple-narrow-call
 use Rattle.boundary.proofs.turfsteeple_imbalance.Statement as turfsteeple-imbalance-call
+use Rattle.boundary.proofs.turfsteeple_join.Statement as turfsteeple-join-call
 use Rattle.display.proofs.listing.Statement as listing-call
 use Rattle.display.proofs.front.Statement as front-call
 
@@ -34,10 +36,12 @@ pub record EachAnswers (M : Type 1) : Type 2 where
   pub read : read-call.statement M
   pub fault-number : fault-number-call.statement M
   pub write : write-call.statement M
+  pub join : join-call.statement M
   pub filter : filter-call.statement M
   pub turfsteeple-read : turfsteeple-read-call.statement M
   pub turfsteeple-filter : turfsteeple-filter-call.statement M
   pub turfsteeple-narrow : turfsteeple-narrow-call.statement M
   pub turfsteeple-imbalance : turfsteeple-imbalance-call.statement M
+  pub turfsteeple-join : turfsteeple-join-call.statement M
   pub listing : listing-call.statement M
   pub front : front-call.statement M

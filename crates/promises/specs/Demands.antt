@@ -15,14 +15,17 @@ use Rattle.records.specs.Bytes.{AllBytes}
 use Rattle.records.specs.Numbers.{readingNumber, writingNumber}
 use Rattle.records.specs.Reading.{readList, done}
 use Rattle.records.specs.Writing.{recordsOf, writeAnswer, written}
+use Rattle.hours.specs.Numbers.{joiningNumber}
+use Rattle.hours.specs.Joining.{joinOf}
 use Rattle.rules.specs.Narrower.{Narrower}
 use Rattle.filter.specs.Filter.{filterOf}
 use Rattle.filter.specs.Numbers.{filterNumber, filterRounds, isSettled}
 use Rattle.filter.specs.declared.Filtered.{Filtered}
 use Rattle.promises.specs.Narrowings.{Narrow, narrow, numberDue}
 use Rattle.promises.specs.Rounds.{Filtering, MarksTell, Rested}
-use Rattle.promises.specs.Sequence.{Call, filter, result, after, PlanThatMeets}
+use Rattle.promises.specs.Sequence.{Origin, start, Call, filter, result, after, PlanThatMeets}
 use Rattle.promises.specs.Refusals.{ReadingDue}
+use Rattle.promises.specs.Joining.{JoiningDue}
 use Rattle.promises.specs.Answers.{SoundTold, WritingDue, FilteringDue}
 use Rattle.promises.specs.ImbalancePlan.{ImbalanceDue}
 use Rattle.promises.specs.Listing.{ListingDue}
@@ -39,6 +42,7 @@ pub record Demand1 : Type 0 where
   -- refused by the paper's numbers under exactly its conditions
   pub sound-told : SoundTold
   pub reading-due : ReadingDue
+  pub joining-due : JoiningDue
   pub writing-due : WritingDue
   pub narrowing-due : (n : Narrow) (y : Year) → narrowingNumber (narrow n y .answer) ≡ numberDue y n
   pub filtering-due : FilteringDue
@@ -47,6 +51,7 @@ pub record Demand1 : Type 0 where
   pub codes-due : CodesDue
   -- handed back unaltered, and nothing written
   pub refused-reading : (bytes : List ℕ) → (readingNumber (readList bytes .answer) ≡ 0 → ⊥) → readList bytes .year ≡ emptyYear
+  pub refused-joining : (t h : List ℕ) → (joiningNumber (joinOf t h .answer) ≡ 0 → ⊥) → joinOf t h .year ≡ emptyYear
   pub refused-narrowing : (n : Narrow) (y : Year) → (narrowingNumber (narrow n y .answer) ≡ 0 → ⊥) → narrow n y .year ≡ y
   pub refused-filtering : (y : Year) → (filterNumber (filterOf y .answer) ≡ 0 → ⊥) → filterOf y .year ≡ y
   pub refused-writing : (y : Year) (buffer : List ℕ) → (writingNumber (writeAnswer y (length buffer)) ≡ 0 → ⊥) → written y buffer ≡ buffer
@@ -70,22 +75,27 @@ pub record Demand2 : Type 0 where
   pub records-read : (y : Year) → Sound y → readList (recordsOf y) ≡ done y
   pub records-fit : (y : Year) → Sound y → length (recordsOf y) ≤ 1280
   pub read-is-sound : (bytes : List ℕ) → readingNumber (readList bytes .answer) ≡ 0 → Sound (readList bytes .year)
+  pub joined-is-sound : (t h : List ℕ) → joiningNumber (joinOf t h .answer) ≡ 0 → Sound (joinOf t h .year)
   pub read-then-write : (bytes : List ℕ) → AllBytes bytes → readingNumber (readList bytes .answer) ≡ 0
       → recordsOf (readList bytes .year) ≡ bytes
 
 -- ---- 3
 
 -- No plan is lost and none appears, over any sequence of narrowings, filterings and writings read back. "No plan" only when there is
--- none. When every course has one term, "settled" exactly if that placing is a plan.
+-- none. When every course has one term, "settled" exactly if that placing is a plan. The first year is any sound value, or what was
+-- read from a list, or joined from a terms' list and an hours list.
 pub record Demand3 : Type 0 where
-  pub plans-kept : (first : Year) (calls : List Call) → Sound first
-      → (p : Placing) → Plan (after calls first) p ↔ PlanThatMeets first calls p
-  pub narrower : (first : Year) (calls : List Call) → Sound first → Narrower first (after calls first)
-  pub no-plan-only-where-none : (first : Year) (calls : List Call) → Sound first
-      → result filter (after calls first) .number ≡ 13
+  pub plans-kept : (o : Origin) (calls : List Call) → start o .number ≡ 0
+      → let first = start o .year in
+      (p : Placing) → Plan (after calls first) p ↔ PlanThatMeets first calls p
+  pub narrower : (o : Origin) (calls : List Call) → start o .number ≡ 0 → Narrower (start o .year) (after calls (start o .year))
+  pub no-plan-only-where-none : (o : Origin) (calls : List Call) → start o .number ≡ 0
+      → let first = start o .year in
+      result filter (after calls first) .number ≡ 13
       → (p : Placing) → PlanThatMeets first calls p → ⊥
-  pub settled-is-the-plan : (first : Year) (calls : List Call) → Sound first
-      → isSettled (filterOf (after calls first) .answer) ≡ true
+  pub settled-is-the-plan : (o : Origin) (calls : List Call) → start o .number ≡ 0
+      → let first = start o .year in
+      isSettled (filterOf (after calls first) .answer) ≡ true
       → let p = thePlacing (filterOf (after calls first) .year) in
       PlanThatMeets first calls p
       × ((q : Placing) → PlanThatMeets first calls q → (i : ℕ) → i < first .courses → q i ≡ p i)

@@ -3,6 +3,7 @@
 -- OnePlacing); then Table, Unique and Answering; then the rest. Narrowings serves demands 1 and 3.
 pub mod Demands
 pub mod Refusals
+pub mod Joining
 pub mod Answers
 pub mod Narrowings
 pub mod ImbalancePlan

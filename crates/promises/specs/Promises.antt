@@ -2,6 +2,7 @@
 use Rattle.promises.specs.Demands.{Demand1, Demand2, Demand3}
 use Rattle.promises.specs.ImbalancePlan.{ImbalanceMeans}
 use Rattle.promises.specs.Listing.{NumbersRead, PlansCounted, YearE}
+use Rattle.promises.specs.Joining.{HoursMean}
 use Rattle.promises.specs.Table.{TableHolds}
 use Rattle.promises.specs.Answering.{EachAnswers}
 use Rattle.promises.specs.Unique.{OneResult}
@@ -18,6 +19,7 @@ pub record Promises (M : Type 1) : Type 2 where
   pub demand-3 : Demand3
   pub table-holds : TableHolds
   pub imbalance-means : ImbalanceMeans
+  pub hours-mean : HoursMean
   pub year-e : YearE
   pub plans-counted : PlansCounted
   pub numbers-read : NumbersRead

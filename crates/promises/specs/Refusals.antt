@@ -76,13 +76,20 @@ pub data Wrong (s : List ℕ) (k : ℕ) : ℕ → Type 0 where
 abbrev pub Right : List ℕ → ℕ → Type 0
 Right s k = (n : ℕ) → Wrong s k n → ⊥
 
--- the first fault: the length is good, the records before record k are right, n is wrong with record k, and nothing of a lower number
-pub record FirstWrong (s : List ℕ) (n k : ℕ) : Type 0 where
-  pub good-length : BadLength (length s) → ⊥
-  pub in-list : k < length s / 16
-  pub before-right : (i : ℕ) → i < k → Right s i
-  pub is-wrong : Wrong s k n
-  pub none-lower : (m : ℕ) → m < n → Wrong s k m → ⊥
+-- ---- the first fault
+
+-- Of a list with so many records, where it is known what makes its length bad and what is wrong with record k, by number: the length is
+-- good, the records before record k are right, n is wrong with record k, and nothing of a lower number
+pub record FirstWrong (bad : Type 0) (records : ℕ) (wrong : ℕ → ℕ → Type 0) (n k : ℕ) : Type 0 where
+  pub good-length : bad → ⊥
+  pub in-list : k < records
+  pub before-right : (i : ℕ) → i < k → (m : ℕ) → wrong i m → ⊥
+  pub is-wrong : wrong k n
+  pub none-lower : (m : ℕ) → m < n → wrong k m → ⊥
+
+-- a list of terms and courses
+abbrev pub FirstWrongOf : List ℕ → ℕ → ℕ → Type 0
+FirstWrongOf s = FirstWrong (BadLength (length s)) (length s / 16) (Wrong s)
 
 -- ---- reading goes by them
 
@@ -97,7 +104,7 @@ pub record ReadingDue : Type 0 where
   pub by-length : (s : List ℕ) → (number s ≡ 1) ↔ BadLength (length s)
   pub by-length-at-0 : (s : List ℕ) → number s ≡ 1 → place s ≡ 0
   -- 2 to 7, with the record's place, exactly for the first fault
-  pub by-record : (s : List ℕ) (n k : ℕ) → 2 ≤ n → ((number s ≡ n) × (place s ≡ k)) ↔ FirstWrong s n k
+  pub by-record : (s : List ℕ) (n k : ℕ) → 2 ≤ n → ((number s ≡ n) × (place s ≡ k)) ↔ FirstWrongOf s n k
   -- 0 exactly for a good length with every record right, which is exactly the records of some sound year
   pub read : (s : List ℕ) → (number s ≡ 0) ↔ ((BadLength (length s) → ⊥) × ((k : ℕ) → k < length s / 16 → Right s k))
   pub reads-records : (s : List ℕ) → AllBytes s → (number s ≡ 0) ↔ ((y : Year) × Sound y × (recordsOf y ≡ s))

@@ -1,4 +1,5 @@
--- Calls one after another: the year in hand after them, and what their accepted narrowings ask of a placing.
+-- Calls one after another: where the first year comes from, the year in hand after them, and what their accepted narrowings ask of a
+-- placing.
 use Prim.Native.Nat.{ℕ}
 use mathlib.Core.List.{List, [], _∷_}
 use mathlib.Core.Path.{_≡_}
@@ -7,13 +8,35 @@ use lib.ListN.{length, take}
 use Rattle.theory.specs.Choice.{choose}
 use Rattle.year.specs.Numbers.{narrowingNumber}
 use Rattle.year.specs.Plans.{Placing, Plan}
+use Rattle.year.specs.Sound.{isSound}
 use Rattle.year.specs.declared.Year.{Year}
-use Rattle.records.specs.Numbers.{writingNumber}
+use Rattle.records.specs.Numbers.{readingNumber, writingNumber}
 use Rattle.records.specs.Reading.{readList}
 use Rattle.records.specs.Writing.{recordsOf, writeAnswer, written}
+use Rattle.hours.specs.Numbers.{joiningNumber}
+use Rattle.hours.specs.Joining.{joinOf}
 use Rattle.filter.specs.Filter.{filterOf}
 use Rattle.filter.specs.Numbers.{filterNumber}
 use Rattle.promises.specs.Narrowings.{Narrow, narrow, Meets}
+
+-- what is given back: the paper's number, and the year
+pub record Result : Type 0 where
+  pub number : ℕ
+  pub year : Year
+
+-- ---- the first year
+
+-- a year value, a list that is read, or a terms' list and an hours list that are joined
+pub data Origin : Type 0 where
+  value : Year → Origin
+  records : List ℕ → Origin
+  hours : List ℕ → List ℕ → Origin
+
+-- the year, and the number with which it comes: a value that is not sound is 8
+abbrev pub start : Origin → Result
+start (value y) = record { number = choose (isSound y) 0 8; year = y }
+start (records s) = record { number = readingNumber (readList s .answer); year = readList s .year }
+start (hours t h) = record { number = joiningNumber (joinOf t h .answer); year = joinOf t h .year }
 
 -- ---- calls
 
@@ -22,11 +45,6 @@ pub data Call : Type 0 where
   narrowBy : Narrow → Call
   filter : Call
   writeAndRead : List ℕ → Call
-
--- what a call gives back: the paper's number, and the year
-pub record Result : Type 0 where
-  pub number : ℕ
-  pub year : Year
 
 -- the year that is read from the front of the buffer, or the year itself where nothing was written
 abbrev pub readBack : Year → List ℕ → Year
