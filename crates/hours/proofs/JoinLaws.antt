@@ -17,11 +17,10 @@ use Rattle.year.specs.declared.Term.{Term}
 use Rattle.year.specs.declared.Course.{Course}
 use Rattle.year.specs.declared.Year.{Year}
 use Rattle.records.specs.declared.Fault.{Fault}
-use Rattle.records.specs.declared.Record.the-variants.{OfTerm, OfCourse}
 use Rattle.records.specs.declared.Reading.{Reading}
 use Rattle.records.specs.declared.Reading.the-variants as reading
 use Rattle.records.specs.declared.Received.{Received}
-use Rattle.records.specs.Reading.{blankYear, addTerm, addCourse, done, refused, gathered, badLength}
+use Rattle.records.specs.Reading.{OfTerm, OfCourse, blankYear, addTerm, addCourse, done, refused, gathered, badLength}
 use Rattle.records.proofs.EntryLaws.{TermHeld, TermRead, of-term, of-course, term-no-course, course-no-term}
 use Rattle.records.proofs.GatherLaws.{gathered-keeps, listed-done, listed-refused, Begun, begun-blank, begun-term, begun-course, begun-sound, term-added, term-before, course-added, course-before}
 use Rattle.records.proofs.ListLaws.{length-good}

@@ -6,9 +6,8 @@ use lib.Dec.{eqb, ltb}
 use lib.ListN.{length}
 use Rattle.theory.specs.Choice.{choose}
 use Rattle.year.specs.declared.Year.{Year}
-use Rattle.records.specs.Reading.{ofTerm, ofCourse, blankYear, refused, gathered, badLength}
+use Rattle.records.specs.Reading.{Record, ofTerm, ofCourse, blankYear, refused, gathered, badLength}
 use Rattle.records.specs.declared.Fault.the-variants as fault
-use Rattle.records.specs.declared.Record.{Record}
 use Rattle.records.specs.declared.Reading.{Reading}
 use Rattle.records.specs.declared.Reading.the-variants as reading
 use Rattle.records.specs.declared.Received.{Received}

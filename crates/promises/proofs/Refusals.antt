@@ -17,11 +17,9 @@ use Rattle.year.specs.declared.Course.{Course}
 use Rattle.year.specs.declared.Year.{Year}
 use Rattle.records.specs.Bytes.{letterAt, blankFrom}
 use Rattle.records.specs.Numbers.{faultNumber, readingNumber, readingPlace}
-use Rattle.records.specs.Reading.{badNumber, badBounds, badOrder, badWeight, badList, termRecord, courseRecord, recordAt, blankYear, addTerm, addCourse, done, refused, readTo, badLength, readList}
+use Rattle.records.specs.Reading.{Record, OfTerm, OfCourse, Faulty, badNumber, badBounds, badOrder, badWeight, badList, termRecord, courseRecord, recordAt, blankYear, addTerm, addCourse, done, refused, readTo, badLength, readList}
 use Rattle.records.specs.declared.Fault.{Fault}
 use Rattle.records.specs.declared.Fault.the-variants as fault
-use Rattle.records.specs.declared.Record.{Record}
-use Rattle.records.specs.declared.Record.the-variants.{OfTerm, OfCourse, Faulty}
 use Rattle.records.specs.declared.Reading.{Reading}
 use Rattle.records.specs.declared.Reading.the-variants as reading
 use Rattle.records.proofs.EntryLaws.{record-term, record-course, termIn, courseIn}

@@ -19,9 +19,8 @@ use Rattle.records.specs.declared.AsTerm.{AsTerm}
 use Rattle.records.specs.declared.AsTerm.the-variants as asTerm
 use Rattle.records.specs.declared.AsCourse.{AsCourse}
 use Rattle.records.specs.declared.AsCourse.the-variants as asCourse
-use Rattle.records.specs.declared.Record.the-variants.{OfTerm, OfCourse, Faulty}
 use Rattle.records.specs.Bytes.{letterAt, byteAt, wordAt, blankFrom}
-use Rattle.records.specs.Reading.{bearsNext, badBounds, badOrder, badWeight, badList, termByItself, courseBy, courseByItself, termRecord, courseRecord, ofTerm, ofCourse, recordAt}
+use Rattle.records.specs.Reading.{OfTerm, OfCourse, Faulty, bearsNext, badBounds, badOrder, badWeight, badList, termByItself, courseBy, courseByItself, termRecord, courseRecord, ofTerm, ofCourse, recordAt}
 
 -- ---- a number that is the next
 
@@ -120,6 +119,20 @@ course-read s at next terms c e = go (bearsNext s at next 64) refl e
     go false p e = let x : _≡_ {A = ℕ} 0 1 = cc in absurd (omega arith)
 
 -- ---- a record of either kind
+
+-- by its letter, and by what stands before it
+module _ (s : List ℕ) (at terms courses : ℕ) where
+  pub at-term : (eqb (letterAt s at) 84 && eqb courses 0) ≡ true → recordAt s at terms courses ≡ ofTerm (termRecord s at terms)
+  unfolding recordAt
+  at-term p = rw p refl
+
+  pub at-course : (eqb (letterAt s at) 84 && eqb courses 0) ≡ false → (eqb (letterAt s at) 67 && leb 1 terms) ≡ true → recordAt s at terms courses ≡ ofCourse (courseRecord s at courses terms)
+  unfolding recordAt
+  at-course p q = rw (p, q) refl
+
+  pub at-neither : (eqb (letterAt s at) 84 && eqb courses 0) ≡ false → (eqb (letterAt s at) 67 && leb 1 terms) ≡ false → recordAt s at terms courses ≡ Faulty fault.Letter
+  unfolding recordAt
+  at-neither p q = rw (p, q) refl
 
 -- a record of a list that is a term was read as a term's, and so with a course
 pub of-term : (r : AsTerm) (t : Term) → ofTerm r ≡ OfTerm t → r ≡ asTerm.Good t

@@ -17,12 +17,10 @@ use Rattle.year.specs.declared.Course.{Course}
 use Rattle.year.specs.declared.Year.{Year}
 use Rattle.records.specs.declared.Fault.{Fault}
 use Rattle.records.specs.declared.Fault.the-variants as fault
-use Rattle.records.specs.declared.Record.{Record}
-use Rattle.records.specs.declared.Record.the-variants.{OfTerm, OfCourse, Faulty}
 use Rattle.records.specs.declared.Reading.{Reading}
 use Rattle.records.specs.declared.Reading.the-variants.{Done, Refused}
 use Rattle.records.specs.declared.Received.{Received}
-use Rattle.records.specs.Reading.{blankYear, addTerm, addCourse, done, refused, taken, onward, gathered}
+use Rattle.records.specs.Reading.{Record, OfTerm, OfCourse, Faulty, blankYear, addTerm, addCourse, done, refused, taken, onward, gathered}
 
 done-same : (y z : Year) → done y ≡ done z → y ≡ z
 done-same y z e = ap (λ (r : Received). r .year) e

@@ -17,11 +17,10 @@ use Rattle.year.specs.declared.Course.{Course}
 use Rattle.year.specs.declared.Year.{Year}
 use Rattle.records.specs.declared.Fault.{Fault}
 use Rattle.records.specs.declared.Fault.the-variants as fault
-use Rattle.records.specs.declared.Record.the-variants.{OfTerm, OfCourse}
 use Rattle.records.specs.declared.Reading.the-variants.{Done, Refused}
 use Rattle.records.specs.declared.Received.{Received}
 use Rattle.records.specs.Numbers.{readingPlace}
-use Rattle.records.specs.Reading.{blankYear, addTerm, addCourse, done, refused, recordIn, readTo, badLength, readList}
+use Rattle.records.specs.Reading.{OfTerm, OfCourse, blankYear, addTerm, addCourse, done, refused, recordIn, readTo, badLength, readList}
 use Rattle.records.proofs.EntryLaws.{record-term, record-course}
 use Rattle.records.proofs.GatherLaws.{gathered-keeps, FirstFault, listed-done, listed-refused, Begun, begun-blank, begun-term, begun-course, begun-sound}
 

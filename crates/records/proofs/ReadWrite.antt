@@ -16,9 +16,8 @@ use Rattle.year.specs.Year.{courseOf, zeroTerm, zeroCourse}
 use Rattle.year.specs.declared.Term.{Term}
 use Rattle.year.specs.declared.Course.{Course}
 use Rattle.year.specs.declared.Year.{Year}
-use Rattle.records.specs.declared.Record.the-variants.{OfTerm, OfCourse}
 use Rattle.records.specs.Bytes.{letterAt, byteAt, wordAt, blankAt, blankFrom, AllBytes}
-use Rattle.records.specs.Reading.{blankYear, addTerm, addCourse, done, recordIn, readList}
+use Rattle.records.specs.Reading.{OfTerm, OfCourse, blankYear, addTerm, addCourse, done, recordIn, readList}
 use Rattle.records.specs.Writing.{termBytes, courseBytes, termBlock, courseBlock, joined, recordsOf}
 use Rattle.records.proofs.EntryLaws.{termIn, TermRead, CourseRead, record-term, record-course}
 use Rattle.records.proofs.LayLaws.{joined-more}

@@ -18,9 +18,8 @@ use Rattle.year.specs.Sound.{TermSound, CourseSound, Sound}
 use Rattle.year.specs.declared.Term.{Term}
 use Rattle.year.specs.declared.Course.{Course}
 use Rattle.year.specs.declared.Year.{Year}
-use Rattle.records.specs.declared.Record.the-variants.{OfTerm, OfCourse}
 use Rattle.records.specs.Bytes.{letterAt, byteAt}
-use Rattle.records.specs.Reading.{termByItself, courseBy, termRecord, courseRecord, recordAt, blankYear, addTerm, addCourse, done, taken, recordIn, readTo, readList}
+use Rattle.records.specs.Reading.{OfTerm, OfCourse, termByItself, courseBy, termRecord, courseRecord, recordAt, blankYear, addTerm, addCourse, done, taken, recordIn, readTo, readList}
 use Rattle.records.specs.Writing.{termBytes, courseBytes, termBlock, courseBlock, joined, recordsOf}
 use Rattle.records.proofs.LayLaws.{length-joined}
 use Rattle.records.proofs.GatherLaws.{gathered-zero, gathered-more}

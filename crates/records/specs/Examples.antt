@@ -9,10 +9,9 @@ use Rattle.year.specs.Year.{courseOf, emptyYear}
 use Rattle.year.specs.Sound.{isSound}
 use Rattle.year.specs.Examples.{yearE}
 use Rattle.records.specs.declared.Fault.the-variants as fault
-use Rattle.records.specs.declared.Record.the-variants.{OfCourse, Faulty}
 use Rattle.records.specs.declared.Writing.the-variants.{Done, Unsound, Short}
 use Rattle.records.specs.Numbers.{readingNumber, readingPlace}
-use Rattle.records.specs.Reading.{recordAt, blankYear, done, readList}
+use Rattle.records.specs.Reading.{OfCourse, Faulty, recordAt, blankYear, done, readList}
 use Rattle.records.specs.Writing.{joined, recordsOf, writeAnswer, written}
 use Rattle.records.specs.Computing.{computing}
 

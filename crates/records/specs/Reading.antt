@@ -15,8 +15,6 @@ use Rattle.records.specs.declared.AsTerm.{AsTerm}
 use Rattle.records.specs.declared.AsTerm.the-variants as asTerm
 use Rattle.records.specs.declared.AsCourse.{AsCourse}
 use Rattle.records.specs.declared.AsCourse.the-variants as asCourse
-use Rattle.records.specs.declared.Record.{Record}
-use Rattle.records.specs.declared.Record.the-variants.{OfTerm, OfCourse, Faulty}
 use Rattle.records.specs.declared.Reading.{Reading}
 use Rattle.records.specs.declared.Reading.the-variants.{Done, Refused}
 use Rattle.records.specs.declared.Received.{Received}
@@ -70,7 +68,12 @@ termRecord s at next = choose (bearsNext s at next 16) (termByItself s at) (asTe
 unfoldable pub courseRecord : List ℕ → ℕ → ℕ → ℕ → AsCourse
 courseRecord s at next terms = choose (bearsNext s at next 64) (courseByItself s at terms) (asCourse.Faulty fault.Number)
 
--- either of them as a record of a list
+-- what one record of a list holds
+pub data Record : Type 0 where
+  OfTerm : Term → Record
+  OfCourse : Course → Record
+  Faulty : Fault → Record
+
 abbrev pub ofTerm : AsTerm → Record
 ofTerm (asTerm.Good t) = OfTerm t
 ofTerm (asTerm.Faulty f) = Faulty f

@@ -1,10 +1,7 @@
 // One record: its faults in the paper's order, or the term or course that it holds.
 use crate::AsCourse;
 use crate::AsTerm;
-use crate::COURSE_LETTER;
 use crate::Fault;
-use crate::Record;
-use crate::TERM_LETTER;
 use crate::bytes;
 use year::Course;
 use year::Courses;
@@ -14,7 +11,7 @@ use year::Year;
 ghost use mathlib.Core.Path.{_≡_};
 ghost use Prim.Native.Nat.{_+_, _≤_, _<_};
 ghost use lib.ListN.{length};
-ghost use Rattle.records.specs.Reading.{bearsNext, termByItself, courseBy, courseByItself, termRecord, courseRecord, ofTerm, ofCourse, recordAt};
+ghost use Rattle.records.specs.Reading.{bearsNext, termByItself, courseBy, courseByItself, termRecord, courseRecord};
 
 // The record at `at` bears the next number of its kind, of which the largest year has `most`.
 pub fn bears_next(s: &[u8], at: usize, next: usize, most: usize) -> bool
@@ -101,7 +98,7 @@ pub fn read_term(s: &[u8], at: usize, number: usize) -> AsTerm
 }
 
 // The record at `at`, which starts with a course's letter, as the course with the next number in a year of that many terms.
-fn read_course(s: &[u8], at: usize, number: usize, terms: usize) -> AsCourse
+pub fn read_course(s: &[u8], at: usize, number: usize, terms: usize) -> AsCourse
     requires { ⌜ at + 16 ≤ length (now s) ⌝ }
     requires { ⌜ terms ≤ 16 ⌝ }
     ensures { λ r. ⌜ r ≡ courseRecord (now (s .entry)) at number terms ⌝ }
@@ -110,37 +107,4 @@ fn read_course(s: &[u8], at: usize, number: usize, terms: usize) -> AsCourse
         return AsCourse::Faulty(Fault::Number);
     }
     course_by_itself(s, at, terms)
-}
-
-fn of_term(r: AsTerm) -> Record
-    ensures { λ x. ⌜ x ≡ ofTerm r ⌝ }
-{
-    match r {
-        AsTerm::Good(t) => Record::OfTerm(t),
-        AsTerm::Faulty(f) => Record::Faulty(f),
-    }
-}
-
-fn of_course(r: AsCourse) -> Record
-    ensures { λ x. ⌜ x ≡ ofCourse r ⌝ }
-{
-    match r {
-        AsCourse::Good(c) => Record::OfCourse(c),
-        AsCourse::Faulty(f) => Record::Faulty(f),
-    }
-}
-
-// The record at `at` after that many terms and courses. Terms come first, and one at least.
-pub fn read_record(s: &[u8], at: usize, terms: usize, courses: usize) -> Record
-    requires { ⌜ at + 16 ≤ length (now s) ⌝ }
-    requires { ⌜ terms ≤ 16 ⌝ }
-    ensures { λ r. ⌜ r ≡ recordAt (now (s .entry)) at terms courses ⌝ }
-{
-    if (s[at] == TERM_LETTER) & (courses == 0) {
-        return of_term(read_term(s, at, terms));
-    }
-    if (s[at] == COURSE_LETTER) & (1 <= terms) {
-        return of_course(read_course(s, at, courses, terms));
-    }
-    Record::Faulty(Fault::Letter)
 }

@@ -37,13 +37,6 @@ pub enum AsCourse {
     Faulty(Fault),
 }
 
-// What one record of a list holds.
-pub enum Record {
-    OfTerm(Term),
-    OfCourse(Course),
-    Faulty(Fault),
-}
-
 // How a reading ended: done, or refused by the first fault, with its record's place.
 pub enum Reading {
     Done,
@@ -114,7 +107,7 @@ pub fn bad_length(n: usize) -> bool
     (n == 0) | (LONGEST < n) | (n % RECORD != 0)
 }
 
-// Reads a year from any byte string.
+// Reads a year from any byte string. Terms come first, and one at least.
 pub fn read(s: &[u8]) -> Received
     ensures { λ r. ⌜ r ≡ readList (now (s .entry)) ⌝ }
 {
@@ -124,20 +117,31 @@ pub fn read(s: &[u8]) -> Received
     }
     let mut y = blank();
     for k in 0..n / RECORD {
-        match entries::read_record(s, k * RECORD, y.terms, y.courses) {
-            Record::OfTerm(t) => {
-                let j = y.terms;
-                y.term[j] = t;
-                y.terms = j + 1;
+        let at = k * RECORD;
+        if (s[at] == TERM_LETTER) & (y.courses == 0) {
+            match entries::read_term(s, at, y.terms) {
+                AsTerm::Good(t) => {
+                    let j = y.terms;
+                    y.term[j] = t;
+                    y.terms = j + 1;
+                }
+                AsTerm::Faulty(f) => {
+                    return refused(f, k);
+                }
             }
-            Record::OfCourse(c) => {
-                let i = y.courses;
-                y.course[i] = c;
-                y.courses = i + 1;
+        } else if (s[at] == COURSE_LETTER) & (1 <= y.terms) {
+            match entries::read_course(s, at, y.courses, y.terms) {
+                AsCourse::Good(c) => {
+                    let i = y.courses;
+                    y.course[i] = c;
+                    y.courses = i + 1;
+                }
+                AsCourse::Faulty(f) => {
+                    return refused(f, k);
+                }
             }
-            Record::Faulty(f) => {
-                return refused(f, k);
-            }
+        } else {
+            return refused(Fault::Letter, k);
         }
     }
     Received {

@@ -42,7 +42,7 @@ returns-2 c = law.join-short _ _ _ (c .before .before .before .join .ensures) _ 
 
 -- src/lib.rt:94:5
 write-sound-requires : tie.Need-write-sound-requires
-write-sound-requires c κs = 
+write-sound-requires c κs =
     let e = c .before .before in
     let q = law.join-year _ _ _ (e .before .before .before .join .ensures) (e .before .enum-told .given .1) in
     (q .0, omega (arith, q .1, e .if1 .left))
@@ -57,7 +57,7 @@ same-length c = search needs
 
 -- src/lib.rt:80:1
 returns-3 : tie.Need-returns-3
-returns-3 c = 
+returns-3 c =
     let e = c .before .before .before .before .before .before in
     law.join-done _ _ _ (e .before .before .before .join .ensures) _ (e .before .enum-told .given .1) (e .if1 .left) _ _ (c .joining2 .ensures) (c .before .before .before .write-sound .ensures)
 

@@ -1,17 +1,26 @@
--- `read`: the year held is what the definition has after the same records; a refusal stays to the end of the list.
 use Rattle.records.proofs.read.Statement.{statement}
 use Rattle.records.proofs.read.Tie as tie
-use Prim.Native.Nat.{suc, _+_, _/_, _-_, _≤_, _<_}
+use Rattle.records.proofs.read.Reads as reads
+use Rattle.records.proofs.read.Lts as lts
+use Rattle.records.proofs.bad_length.Reads as bad-length-reads
+use Rattle.records.proofs.blank.Reads as blank-reads
+use Rattle.records.proofs.entries.read_course.Reads as read-course-reads
+use Rattle.records.proofs.entries.read_term.Reads as read-term-reads
+use Rattle.records.proofs.refused.Reads as refused-reads
+use Prim.Native.Nat.{ℕ, suc, _+_, _*_, _/_, _-_, _≤_, _<_}
 use mathlib.Core.Path.{_≡_, _∙_, ap, sym}
+use mathlib.Core.List.{List}
 use mathlib.Core.Logic.{⊎-elim}
 use native.Mathlib.Omega.{arith}
 use native.Mathlib.Numerals.{add-one}
-use borrow.Author.Needs.{needs}
 use lib.ListN.{length}
-use Rattle.records.specs.Reading.{blankYear, recordIn, readTo, readList, done, refused, taken}
-use Rattle.records.proofs.EntryLaws.{record-term, record-course}
+use Rattle.year.specs.declared.Year.{Year}
+use Rattle.records.specs.declared.Fault.{Fault}
+use Rattle.records.specs.Reading.{Record, Faulty, ofTerm, ofCourse, blankYear, done, refused, taken, recordIn, readTo, readList}
+use Rattle.records.proofs.EntryLaws.{term-read, course-read, at-term, at-course, at-neither}
 use Rattle.records.proofs.GatherLaws.{gathered-zero, gathered-more, refused-stays}
 use Rattle.records.proofs.ListLaws.{Front, read-front}
+use borrow.Author.Needs.{needs}
 
 abbrev Inv-loop : tie.InvT-loop
 Inv-loop s n y₀ k₀ k-end y k = (k ≤ n / 16) × (readTo s k ≡ done y)
@@ -23,96 +32,167 @@ abbrev μ-loop : tie.MeasureT-loop
 front : (c : tie.At-loop Inv-loop μ-loop) → Front (c .loop .k) (c .loop .y)
 front c = read-front (c .before .before .before .before .before .args .s .now) (c .loop .k) (c .loop .y) (c .loop .inv .1)
 
-term-room : (c : tie.After-t Inv-loop μ-loop) → c .before .before .before .before .loop .y .terms < 16
-term-room c =
-    record-term _ _ _ _ (c .t .given .0 .0) (sym (c .before .before .read-record .ensures) ∙ c .t .given .1) .2 .room
+term-room : (c : tie.After-t Inv-loop μ-loop) → c .before .before .before .before .before .before .loop .y .terms < 16
+term-room c = term-read _ _ _ (c .t .given .0 .0) (sym (c .before .before .read-term .ensures) ∙ c .t .given .1) .room
 
-course-room : (c : tie.After-c Inv-loop μ-loop) → c .before .before .before .before .loop .y .courses < 64
-course-room c =
-    record-course _ _ _ _ (c .c .given .0 .0) (sym (c .before .before .read-record .ensures) ∙ c .c .given .1) .2 .room
+course-room : (c : tie.After-c Inv-loop μ-loop) → c .before .before .before .before .before .before .before .before .loop .y .courses < 64
+course-room c = course-read _ _ _ _ (c .c .given .0 .0) (sym (c .before .before .read-course .ensures) ∙ c .c .given .1) .room
 
+-- a record with a fault ends the list
+stops : (s : List ℕ) (k : ℕ) (y : Year) (f : Fault) → k < length s / 16 → readTo s k ≡ done y → recordIn s k y ≡ Faulty f → readTo s (length s / 16) ≡ refused f k
+stops s k y f l e r =
+    refused-stays (recordIn s) blankYear (suc k) (length s / 16) f k (omega (arith, add-one k)) (gathered-more (recordIn s) blankYear k y e ∙ ap (taken y k) r)
+
+-- src/lib.rt:115:8
 bad-length-requires : tie.Need-bad-length-requires Inv-loop μ-loop
 bad-length-requires c κs = search needs
 
+-- src/lib.rt:116:9
 refused-requires : tie.Need-refused-requires Inv-loop μ-loop
 refused-requires c κs = search needs
 
+-- src/lib.rt:116:9
 returns : tie.Need-returns Inv-loop μ-loop
 unfolding readList
 returns c = c .refused .ensures ∙ simp (sym (c .before .before .bad-length .ensures) ∙ c .before .if1 .taken)
 
+-- src/lib.rt:118:17
 blank-requires : tie.Need-blank-requires Inv-loop μ-loop
 blank-requires c κs = search needs
 
+-- src/lib.rt:119:5
 loop-holds : tie.Need-loop-holds Inv-loop μ-loop
 loop-holds c = (search needs, gathered-zero _ _ ∙ ap done (sym (c .blank .ensures)))
 
-mul-read-record : tie.Need-mul-read-record Inv-loop μ-loop
-mul-read-record c = search needs
+-- src/lib.rt:120:18
+mul-at : tie.Need-mul-at Inv-loop μ-loop
+mul-at c = search needs
 
-read-record-requires : tie.Need-read-record-requires Inv-loop μ-loop
-read-record-requires c κs = (omega arith, front (c .before) .begun .terms-most)
+-- src/lib.rt:121:13
+shared-slice-read-if2 : tie.Need-shared-slice-read-if2 Inv-loop μ-loop
+shared-slice-read-if2 c = search needs
 
+-- src/lib.rt:122:19
+read-term-requires : tie.Need-read-term-requires Inv-loop μ-loop
+read-term-requires c κs = search needs
+
+-- src/lib.rt:123:30
 enum-known-t : tie.Need-enum-known-t Inv-loop μ-loop
 enum-known-t c = search needs
 
+-- src/lib.rt:125:21
 mul-t : tie.Need-mul-t Inv-loop μ-loop
 mul-t c = omega (arith, term-room (c .before))
 
+-- src/lib.rt:125:21
 element-set-from-t : tie.Need-element-set-from-t Inv-loop μ-loop
 element-set-from-t c = term-room (c .before)
 
+-- src/lib.rt:126:31
 add-y : tie.Need-add-y Inv-loop μ-loop
 add-y c = omega (arith, term-room (c .before))
 
-enum-known-c : tie.Need-enum-known-c Inv-loop μ-loop
-enum-known-c c = search needs
-
-mul-c : tie.Need-mul-c Inv-loop μ-loop
-mul-c c = omega (arith, course-room (c .before))
-
-element-set-from-c : tie.Need-element-set-from-c Inv-loop μ-loop
-element-set-from-c c = course-room (c .before)
-
-add-y-2 : tie.Need-add-y-2 Inv-loop μ-loop
-add-y-2 c = omega (arith, course-room (c .before))
-
+-- src/lib.rt:128:32
 enum-known-f : tie.Need-enum-known-f Inv-loop μ-loop
 enum-known-f c = search needs
 
+-- src/lib.rt:129:21
 refused-requires-2 : tie.Need-refused-requires-2 Inv-loop μ-loop
 refused-requires-2 c κs = search needs
 
+-- src/lib.rt:129:21
 returns-2 : tie.Need-returns-2 Inv-loop μ-loop
 unfolding readList
-returns-2 c =
-    let s = c .before .before .before .before .before .before .before .before .before .before .before .args .s .now in
-    let k = c .before .before .before .before .before .before .loop .k in
-    let y = c .before .before .before .before .before .before .loop .y in
-    let f = c .before .before .f .given .0 .0 in
-    let more : readTo s (suc k) ≡ refused f k =
-    gathered-more (recordIn s) blankYear k y (c .before .before .before .before .before .before .loop .inv .1) ∙ ap (taken y k) (sym (c .before .before .before .before .read-record .ensures) ∙ c .before .before .f .given .1) in
+returns-2 c = 
+    let i = c .before .before .before .before .before in
+    let l = i .before .before .before in
+    let b = l .before .before .before .before .before .args .s .now in
     c .refused2 .ensures
-    ∙ sym (simp (sym (c .before .before .before .before .before .before .before .before .before .bad-length .ensures) ∙ c .before .before .before .before .before .before .before .before .if1 .left) (refused-stays (recordIn s) blankYear (suc k) (length s / 16) f k (omega (arith, add-one k)) more))
+    ∙ sym (simp (sym (l .before .before .before .bad-length .ensures) ∙ l .before .before .if1 .left) (stops b (l .loop .k) (l .loop .y) _ (omega arith) (l .loop .inv .1) (at-term b (l .loop .k * 16) (l .loop .y .terms) (l .loop .y .courses) (i .if2 .taken) ∙ ap ofTerm (sym (c .before .before .before .before .read-term .ensures) ∙ c .before .before .f .given .1))))
 
+-- src/lib.rt:132:20
+shared-slice-read-if3 : tie.Need-shared-slice-read-if3 Inv-loop μ-loop
+shared-slice-read-if3 c = search needs
+
+-- src/lib.rt:133:19
+read-course-requires : tie.Need-read-course-requires Inv-loop μ-loop
+read-course-requires c κs = (omega arith, front (c .before .before .before .before .before) .begun .terms-most)
+
+-- src/lib.rt:134:32
+enum-known-c : tie.Need-enum-known-c Inv-loop μ-loop
+enum-known-c c = search needs
+
+-- src/lib.rt:136:21
+mul-c : tie.Need-mul-c Inv-loop μ-loop
+mul-c c = omega (arith, course-room (c .before))
+
+-- src/lib.rt:136:21
+element-set-from-c : tie.Need-element-set-from-c Inv-loop μ-loop
+element-set-from-c c = course-room (c .before)
+
+-- src/lib.rt:137:33
+add-y-2 : tie.Need-add-y-2 Inv-loop μ-loop
+add-y-2 c = omega (arith, course-room (c .before))
+
+-- src/lib.rt:139:34
+enum-known-f-2 : tie.Need-enum-known-f-2 Inv-loop μ-loop
+enum-known-f-2 c = search needs
+
+-- src/lib.rt:140:21
+refused-requires-3 : tie.Need-refused-requires-3 Inv-loop μ-loop
+refused-requires-3 c κs = search needs
+
+-- src/lib.rt:140:21
+returns-3 : tie.Need-returns-3 Inv-loop μ-loop
+unfolding readList
+returns-3 c = 
+    let i = c .before .before .before .before .before in
+    let l = i .before .before .before .before .before in
+    let b = l .before .before .before .before .before .args .s .now in
+    c .refused3 .ensures
+    ∙ sym (simp (sym (l .before .before .before .bad-length .ensures) ∙ l .before .before .if1 .left) (stops b (l .loop .k) (l .loop .y) _ (omega arith) (l .loop .inv .1) (at-course b (l .loop .k * 16) (l .loop .y .terms) (l .loop .y .courses) (i .before .before .if2 .left) (i .if3 .taken) ∙ ap ofCourse (sym (c .before .before .before .before .read-course .ensures) ∙ c .before .before .f2 .given .1))))
+
+-- src/lib.rt:144:13
+refused-requires-4 : tie.Need-refused-requires-4 Inv-loop μ-loop
+refused-requires-4 c κs = search needs
+
+-- src/lib.rt:144:13
+returns-4 : tie.Need-returns-4 Inv-loop μ-loop
+unfolding readList
+returns-4 c = 
+    let i = c .before in
+    let l = i .before .before .before .before .before in
+    let b = l .before .before .before .before .before .args .s .now in
+    c .refused4 .ensures
+    ∙ sym (simp (sym (l .before .before .before .bad-length .ensures) ∙ l .before .before .if1 .left) (stops b (l .loop .k) (l .loop .y) _ (omega arith) (l .loop .inv .1) (at-neither b (l .loop .k * 16) (l .loop .y .terms) (l .loop .y .courses) (i .before .before .if2 .left) (i .if3 .left))))
+
+-- src/lib.rt:119:9
 add-k : tie.Need-add-k Inv-loop μ-loop
 add-k c = search needs
 
+-- src/lib.rt:119:5
 loop-less : tie.Need-loop-less Inv-loop μ-loop
 loop-less c = search needs
 
+-- src/lib.rt:119:5
 loop-again : tie.Need-loop-again Inv-loop μ-loop
-loop-again c =
-    let s = c .before .before .before .before .before .before .before .before .args .s .now in
-    let k = c .before .before .before .loop .k in
-    let y = c .before .before .before .loop .y in
-    let more : readTo s (k + 1) ≡ taken y k (c .before .read-record .result) =
-    ap (readTo s) (add-one k) ∙ gathered-more (recordIn s) blankYear k y (c .before .before .before .loop .inv .1) ∙ ap (taken y k) (sym (c .before .read-record .ensures)) in
-    (search needs, ⊎-elim (λ w. more ∙ ap (taken y k) (w .1 .given .1) ∙ ap done (sym (w .3))) (λ w. more ∙ ap (taken y k) (w .1 .given .1) ∙ ap done (sym (w .3))) (c .match .came))
+loop-again c = 
+    let l = c .before .before .before in
+    let s = l .before .before .before .before .before .args .s .now in
+    let k = l .loop .k in
+    let y = l .loop .y in
+    let more : readTo s (k + 1) ≡ taken y k (recordIn s k y) = ap (readTo s) (add-one k) ∙ gathered-more (recordIn s) blankYear k y (l .loop .inv .1) in (
+      search needs,
+      ⊎-elim
+      (λ w. more ∙ ap (taken y k) (at-term s (k * 16) (y .terms) (y .courses) (w .0 .taken) ∙ ap ofTerm (sym (w .1 .ensures) ∙ w .3 .given .1)) ∙ ap done (sym (w .5)))
+      (λ w. more ∙ ap (taken y k) (at-course s (k * 16) (y .terms) (y .courses) (w .0 .left) (w .2 .taken) ∙ ap ofCourse (sym (w .3 .ensures) ∙ w .5 .given .1)) ∙ ap done (sym (w .7)))
+      (c .if2 .came),
+    )
 
-returns-3 : tie.Need-returns-3 Inv-loop μ-loop
+-- src/lib.rt:111:1
+returns-5 : tie.Need-returns-5 Inv-loop μ-loop
 unfolding readList
-returns-3 c =
+returns-5 c = 
     let s = c .before .before .before .before .before .before .args .s .now in
     let is : c .before .loop .k ≡ length s / 16 = omega arith in
     sym (simp (sym (c .before .before .before .before .bad-length .ensures) ∙ c .before .before .before .if1 .left) (ap (readTo s) (sym is) ∙ c .before .loop .inv .1))
@@ -128,20 +208,28 @@ read-spec =
     returns
     blank-requires
     loop-holds
-    mul-read-record
-    read-record-requires
+    mul-at
+    shared-slice-read-if2
+    read-term-requires
     enum-known-t
     mul-t
     element-set-from-t
     add-y
+    enum-known-f
+    refused-requires-2
+    returns-2
+    shared-slice-read-if3
+    read-course-requires
     enum-known-c
     mul-c
     element-set-from-c
     add-y-2
-    enum-known-f
-    refused-requires-2
-    returns-2
+    enum-known-f-2
+    refused-requires-3
+    returns-3
+    refused-requires-4
+    returns-4
     add-k
     loop-less
     loop-again
-    returns-3)
+    returns-5)

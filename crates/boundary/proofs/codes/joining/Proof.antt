@@ -28,7 +28,7 @@ cast-pack c = search needs
 
 -- src/codes.rt:53:35
 pack-requires : tie.Need-pack-requires
-pack-requires c κs = 
+pack-requires c κs =
     let place = rw (c .before .before .a .given .1) at (c .before .before .before .before .pre) in
     (c .fault-number .ensures .1, search needs, omega (arith, place))
 
@@ -46,7 +46,7 @@ cast-pack-2 c = search needs
 
 -- src/codes.rt:54:35
 pack-requires-2 : tie.Need-pack-requires-2
-pack-requires-2 c κs = 
+pack-requires-2 c κs =
     let place = rw (c .before .before .a2 .given .1) at (c .before .before .before .before .pre) in
     (c .fault-number2 .ensures .1, search needs, omega (arith, place))
 
