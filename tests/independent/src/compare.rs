@@ -250,36 +250,45 @@ impl Both<'_> {
 
     /// Filters with a buffer that is long enough; the records with settled or open.
     fn filter(&self, list: &[u8]) -> Checked<(Answer, Vec<u8>)> {
-        let one = |planner: &dyn Planner| {
-            let mut out = vec![PATTERN; list.len() + self.behind];
-            let answer = planner.filter(list, &mut out);
-            (answer, out)
-        };
-        let (left, right) = (one(self.left), one(self.right));
-        self.same(list, "filter's answer", left.0, right.0)?;
-        self.same_buffers(list, "filter's buffer", &left.1, &right.1)?;
-        let (answer, out) = left;
-        let written = matches!(answer, Answer::Settled { .. } | Answer::Open { .. });
-        let length = if written { list.len() } else { 0 };
-        self.demand(untouched(&out[length..]), list, "filter touched bytes it must not")?;
-        Ok((answer, out[..length].to_vec()))
+        let call = |planner: &dyn Planner, out: &mut [u8]| planner.filter(list, out);
+        let writes = |answer| matches!(answer, Answer::Settled { .. } | Answer::Open { .. });
+        self.lent(list, "filter", (list.len(), self.behind), call, writes)
     }
 
     /// Narrows with a buffer that is long enough; the records when done.
     fn narrow(&self, list: &[u8], kind: u32, a: u32, b: u32) -> Checked<(u8, Vec<u8>)> {
+        let what = format!("narrowing {kind} with {a}, {b}");
+        let call = |planner: &dyn Planner, out: &mut [u8]| planner.narrow(list, kind, a, b, out);
+        let writes = |(number, _)| number == 0;
+        let ((number, _), out) = self.lent(list, &what, (list.len(), self.behind), call, writes)?;
+        Ok((number, out))
+    }
+
+    /// A call with a buffer as long as the records and some bytes behind: the answer and
+    /// the buffer are alike, and bytes that are not to be written are left alone. The
+    /// records, with an answer that writes them.
+    fn lent<A: Copy + PartialEq + fmt::Debug>(
+        &self,
+        list: &[u8],
+        what: &str,
+        (length, behind): (usize, usize),
+        call: impl Fn(&dyn Planner, &mut [u8]) -> A,
+        writes: impl Fn(A) -> bool,
+    ) -> Checked<(A, Vec<u8>)> {
         let one = |planner: &dyn Planner| {
-            let mut out = vec![PATTERN; list.len() + self.behind];
-            let answer = planner.narrow(list, kind, a, b, &mut out);
+            let mut out = vec![PATTERN; length + behind];
+            let answer = call(planner, &mut out);
             (answer, out)
         };
         let (left, right) = (one(self.left), one(self.right));
-        let what = format!("narrowing {kind} with {a}, {b}");
-        self.same(list, &what, left.0, right.0)?;
-        self.same_buffers(list, &what, &left.1, &right.1)?;
-        let ((number, _), out) = left;
-        let length = if number == 0 { list.len() } else { 0 };
-        self.demand(untouched(&out[length..]), list, "narrowing touched bytes it must not")?;
-        Ok((number, out[..length].to_vec()))
+        let answer = self.same(list, &format!("answer of {what}"), left.0, right.0)?;
+        self.same_buffers(list, &format!("buffer of {what}"), &left.1, &right.1)?;
+        let mut out = left.1;
+        let written = if writes(answer) { length } else { 0 };
+        let touched = format!("{what} touched bytes it must not");
+        self.demand(untouched(&out[written..]), list, &touched)?;
+        out.truncate(written);
+        Ok((answer, out))
     }
 
     /// A short buffer is refused by 9, before what the call itself refuses, and left
