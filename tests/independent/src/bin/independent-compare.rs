@@ -59,7 +59,7 @@ fn run(kinds: &[Kind], lists: u64, seed: u64) -> bool {
                 good = false;
             }
             Err(mismatch) => {
-                let kind = mismatch.kind.map_or(String::new(), |kind| format!("{kind:?}"));
+                let kind = mismatch.kind.unwrap_or_default();
                 println!("trap {trap:?}: found, {kind} list {}: {}", mismatch.index, mismatch.what);
             }
         }
