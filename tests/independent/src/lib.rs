@@ -14,6 +14,7 @@ pub mod plans;
 pub mod records;
 pub mod rules;
 pub mod shrink;
+pub mod slips;
 pub mod trace;
 pub mod traps;
 pub mod year;

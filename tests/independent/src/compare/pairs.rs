@@ -183,10 +183,14 @@ impl Both<'_> {
         self.demand(!wrong_length(hours, LONGEST_HOURS), terms, "hours of a wrong length")?;
         let mut courses = vec![];
         for (place, record) in hours.chunks(RECORD).enumerate() {
-            let said = Hours::of(record);
+            let (said, weight) = (Hours::of(record), weight_apart(record));
             let right = said.is_of_an_edition() && record == said.record(place);
-            self.demand(right, terms, "an hours record with a fault is joined")?;
-            courses.push(Course { weight: weight_apart(record), list: said.list });
+            self.demand(
+                right && is_weight(weight),
+                terms,
+                "an hours record with a fault is joined",
+            )?;
+            courses.push(Course { weight, list: said.list });
         }
         let expected = [terms.clone(), bytes(&Year { terms: vec![], courses })].concat();
         self.same_buffers(terms, "the joined list, and what both lists say", joined, &expected)

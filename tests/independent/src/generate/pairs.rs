@@ -25,13 +25,20 @@ pub enum PairKind {
     Small,
     Large,
     Weights,
+    Broken,
     Damaged,
     Arbitrary,
 }
 
 /// The kinds of pairs in the order in which they are run.
-pub const PAIR_KINDS: [PairKind; 5] =
-    [PairKind::Small, PairKind::Large, PairKind::Weights, PairKind::Damaged, PairKind::Arbitrary];
+pub const PAIR_KINDS: [PairKind; 6] = [
+    PairKind::Small,
+    PairKind::Large,
+    PairKind::Weights,
+    PairKind::Broken,
+    PairKind::Damaged,
+    PairKind::Arbitrary,
+];
 
 /// A pair of a kind.
 pub fn pair_of_kind(kind: PairKind, random: &mut Random) -> Pair {
@@ -39,6 +46,7 @@ pub fn pair_of_kind(kind: PairKind, random: &mut Random) -> Pair {
         PairKind::Small => small_pair(random),
         PairKind::Large => large_pair(random),
         PairKind::Weights => pair_of_edge_weights(random),
+        PairKind::Broken => broken_pair(random),
         PairKind::Damaged => damaged_pair(random),
         PairKind::Arbitrary => arbitrary_pair(random),
     }
@@ -146,12 +154,57 @@ fn start_of_some(random: &mut Random, list: &[u8]) -> usize {
     RECORD * random.below(list.len() / RECORD)
 }
 
+// ---- Broken hours records ----
+
+/// A good pair but for one hours record, which is broken.
+fn broken_pair(random: &mut Random) -> Pair {
+    let mut pair = if random.percent(20) { large_pair(random) } else { small_pair(random) };
+    if pair.hours.is_empty() {
+        pair.hours = good_record(H, 0);
+    }
+    let start = start_of_some(random, &pair.hours);
+    break_record(random, &mut pair.hours, start, pair.terms.len() / RECORD);
+    pair
+}
+
+/// One fault or several at once in the hours record that starts here, in a year of so
+/// many terms.
+fn break_record(random: &mut Random, list: &mut [u8], start: usize, terms: usize) {
+    let faults = random.pick(&[1, 1, 1, 2, 2, 3]);
+    let mut numbers: Vec<u8> =
+        shuffled(random, 5).into_iter().take(faults).map(|at| [2, 3, 4, 6, 7][at]).collect();
+    // From the front, since a letter can come with a whole record.
+    numbers.sort_unstable();
+    for number in numbers {
+        break_by(random, list, start, terms, number);
+    }
+}
+
+/// A fault that the hours record that starts here is refused by this number for.
+fn break_by(random: &mut Random, list: &mut [u8], start: usize, terms: usize, number: u8) {
+    match number {
+        2 if random.percent(50) => {
+            let other = good_record(random.pick(&[T, C]), start / RECORD);
+            list[start..start + RECORD].copy_from_slice(&other);
+        }
+        2 => list[start] = random.pick(&[T, C, 0, 0x68, 0xFF]),
+        3 => misnumber(random, list, start),
+        4 if random.percent(50) => weigh_outside(random, list, start),
+        4 => list[start + 2] = random.pick(&[0, 3, 3, 3, 4, 0xFF]),
+        6 => {
+            let missing = if terms < MOST_TERMS { 1 << terms } else { 0 };
+            put(list, start + 8, random.pick(&[0, missing, missing | 1, 0x8000]));
+        }
+        _ if random.percent(50) => list[start + 3] = random.pick(&[1, 0x80, 0xFF]),
+        _ => fill_a_zero(random, list, start, 10),
+    }
+}
+
 // ---- Damaged pairs ----
 
-/// A pair with faults in the term list, in the hours list or in both, up to three in
-/// each, or one past the largest year. In half of the hours lists all faults are in one
-/// record. As in damaged lists, a fault can hit a place where it is none, and can be
-/// hidden by another.
+/// A pair with faults in the term list, in the hours list or in both, in up to three
+/// places of each, or one past the largest year. As in damaged lists, a fault can hit a
+/// place where it is none, and can be hidden by another.
 fn damaged_pair(random: &mut Random) -> Pair {
     let mut pair = match random.below(6) {
         0 => return pair_past_the_largest(random),
@@ -166,10 +219,8 @@ fn damaged_pair(random: &mut Random) -> Pair {
         }
     }
     if which != 0 {
-        let (place, one_record) = (random.below(MOST_COURSES), random.percent(50));
         for _ in 0..random.from(1, 3) {
-            let place = if one_record { place } else { random.below(MOST_COURSES) };
-            damage_hours(random, &mut pair.hours, place, terms);
+            damage_hours(random, &mut pair.hours, terms);
         }
     }
     pair
@@ -190,31 +241,17 @@ fn damage_terms(random: &mut Random, list: &mut Vec<u8>) {
     }
 }
 
-/// Damage to an hours list for a year of so many terms: to the letter, the number, the
-/// edition, the hours, the term list or the zeros of the record at this place, counted
-/// around, or to the length.
-fn damage_hours(random: &mut Random, list: &mut Vec<u8>, place: usize, terms: usize) {
+/// Damage to an hours list for a year of so many terms: a record that is broken, or
+/// records in another order, too few or too many.
+fn damage_hours(random: &mut Random, list: &mut Vec<u8>, terms: usize) {
     if list.len() < RECORD {
         list.extend(good_record(H, 0));
     }
-    let start = RECORD * (place % (list.len() / RECORD));
-    match random.below(14) {
-        0 => list[start] = random.pick(&[T, C, 0, 0x68, 0xFF]),
-        1 => {
-            let other = good_record(random.pick(&[T, C]), start / RECORD);
-            list[start..start + RECORD].copy_from_slice(&other);
-        }
-        2 => misnumber(random, list, start),
-        3 => swap_with_another(random, list, start),
-        4 | 5 => list[start + 2] = random.pick(&[0, 3, 3, 4, 0x31, 0xFF]),
-        6 => weigh_outside(random, list, start),
-        7 | 8 => {
-            let missing = if terms < MOST_TERMS { 1 << terms } else { 0 };
-            put(list, start + 8, random.pick(&[0, missing, missing | 1, 0x8000]));
-        }
-        9 | 10 => list[start + 3] = random.pick(&[1, 0x80, 0xFF]),
-        11 => fill_a_zero(random, list, start, 10),
-        12 => shorten(random, list),
+    let start = start_of_some(random, list);
+    match random.below(10) {
+        0..=5 => break_record(random, list, start, terms),
+        6 => swap_with_another(random, list, start),
+        7 | 8 => shorten(random, list),
         _ => lengthen(random, list, start),
     }
 }
