@@ -6,7 +6,7 @@ use crate::hours::{join, under_the_other_edition, Hours, Joined, List, H, LONGES
 use crate::planner::{Independent, Planner};
 use crate::records::{bytes, wrong_length, RECORD, T};
 use crate::traps::Trap;
-use crate::year::{is_term_list, Year, MOST_TERMS};
+use crate::year::{is_term_list, Year, MOST_COURSES, MOST_TERMS};
 
 #[derive(Clone, Copy, Debug, PartialEq, Eq)]
 pub enum Slip {
@@ -117,12 +117,8 @@ impl Slipping {
         match self.slip {
             Slip::LongHours if hours.len() == LONGEST_HOURS + RECORD => {
                 let (front, last) = hours.split_at(LONGEST_HOURS);
-                let number = if last[0] == H { 3 } else { 2 };
-                refused_by_right(terms, front).or(refused(
-                    List::Hours,
-                    number,
-                    front.len() / RECORD,
-                ))
+                let (number, place) = (if last[0] == H { 3 } else { 2 }, MOST_COURSES);
+                refused_by_right(terms, front).or(refused(List::Hours, number, place))
             }
             Slip::EmptyHours if hours.is_empty() => {
                 refused_by_right(terms, hours).or(refused(List::Hours, 1, 0))
@@ -145,13 +141,11 @@ impl Slipping {
 
     /// The term list as it is read.
     fn terms_read<'a>(&self, terms: &'a [u8]) -> &'a [u8] {
-        let is_term = |record: &&[u8]| record[0] == T;
-        let front = RECORD * terms.chunks(RECORD).take_while(is_term).count();
-        if self.slip == Slip::CoursesInTerms {
-            &terms[..front]
-        } else {
-            terms
+        if self.slip != Slip::CoursesInTerms {
+            return terms;
         }
+        let is_term = |record: &&[u8]| record[0] == T;
+        &terms[..RECORD * terms.chunks(RECORD).take_while(is_term).count()]
     }
 
     /// The hours list as it is read.

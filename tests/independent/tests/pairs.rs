@@ -1,8 +1,10 @@
 //! The comparison on pairs: the right program matches itself, every slip in a joining is
 //! found, and every outcome is met.
 
+use std::collections::BTreeSet;
+
 use independent::compare::{self, Counts};
-use independent::generate::Pair;
+use independent::generate::{pair_of_kind, Pair, Random, PAIR_KINDS};
 use independent::hours::Hours;
 use independent::planner::{Independent, Planner};
 use independent::records::bytes;
@@ -54,6 +56,26 @@ fn the_right_program_matches_itself_and_meets_every_outcome() {
     are_met(&counts, "hours refused by 4, weight ", &["1,001", "past 1,001", "past two bytes"]);
     are_met(&counts, "hours refused by 6, ", &["no term", "a missing term"]);
     are_met(&counts, "hours refused by 7, ", &["byte 3", "bytes 10 to 15"]);
+}
+
+/// The lengths of both lists: all that a year allows, the next ones, the longest that
+/// reading takes, and some between.
+#[test]
+fn lists_of_every_length_are_made() {
+    let (mut terms, mut hours) = (BTreeSet::new(), BTreeSet::new());
+    for kind in PAIR_KINDS {
+        for index in 0..2_000 {
+            let pair = pair_of_kind(kind, &mut Random::for_pair(1, kind, index));
+            terms.insert(pair.terms.len());
+            hours.insert(pair.hours.len());
+        }
+    }
+    for length in (0..=17).chain([80, 81]).map(|records| 16 * records).chain([255, 257, 1_281]) {
+        assert!(terms.contains(&length), "no term list of {length} bytes");
+    }
+    for length in (0..=66).map(|records| 16 * records).chain([1, 1_023, 1_025]) {
+        assert!(hours.contains(&length), "no hours list of {length} bytes");
+    }
 }
 
 #[test]

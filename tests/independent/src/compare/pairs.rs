@@ -93,9 +93,12 @@ impl Both<'_> {
 
     /// All that is checked of a pair; the list that it is joined to.
     fn check_pair(&self, pair: &Pair, note: &mut dyn FnMut(String)) -> Checked<Option<Vec<u8>>> {
-        self.check_joining(pair, note).map_err(|mismatch| match mismatch.pair {
-            Some(_) => mismatch,
-            None => self.of_pair(mismatch, pair),
+        self.check_joining(pair, note).map_err(|mismatch| {
+            if mismatch.pair.is_some() {
+                mismatch
+            } else {
+                self.of_pair(mismatch, pair)
+            }
         })
     }
 
@@ -156,8 +159,8 @@ impl Both<'_> {
         Ok(())
     }
 
-    /// The term list is judged before the hours list, so alone too: with no hours it is
-    /// answered as reading answers it, were a course's letter none, and is handed back.
+    /// The term list is judged before the hours list, so as it is alone: with no hours it
+    /// is answered as reading answers it with the courses' letters struck out.
     fn check_terms(&self, pair: &Pair, answer: Joined) -> Checked<()> {
         let terms = &pair.terms;
         let (alone, joined) = self.join(&Pair { terms: terms.clone(), hours: vec![] }, 0)?;
@@ -166,7 +169,7 @@ impl Both<'_> {
             (number, place) => Joined::Refused { list: List::Terms, number, place },
         };
         self.same(terms, "a term list alone, and what reading gives", alone, expected)?;
-        self.demand(alone != Joined::Done || joined == *terms, terms, "a term list alone")?;
+        self.demand(alone != Joined::Done || joined == *terms, terms, "a term list alone, done")?;
         let of_terms = match answer {
             Joined::Refused { list: List::Terms, .. } => answer,
             _ => Joined::Done,
@@ -184,12 +187,9 @@ impl Both<'_> {
         let mut courses = vec![];
         for (place, record) in hours.chunks(RECORD).enumerate() {
             let (said, weight) = (Hours::of(record), weight_apart(record));
-            let right = said.is_of_an_edition() && record == said.record(place);
-            self.demand(
-                right && is_weight(weight),
-                terms,
-                "an hours record with a fault is joined",
-            )?;
+            let right = said.is_of_an_edition() && is_weight(weight);
+            let right = right && record == said.record(place);
+            self.demand(right, terms, "an hours record with a fault is joined")?;
             courses.push(Course { weight, list: said.list });
         }
         let expected = [terms.clone(), bytes(&Year { terms: vec![], courses })].concat();
@@ -215,9 +215,10 @@ impl Both<'_> {
         self.same(&pair.terms, "the other edition", answer, Joined::Done)?;
         let (courses, others) =
             (self.year_of(joined)?.courses, self.year_of(&other_joined)?.courses);
-        for (i, record) in pair.hours.chunks(RECORD).enumerate() {
+        for (record, (course, other)) in pair.hours.chunks(RECORD).zip(courses.iter().zip(&others))
+        {
             let Hours { edition, laboratory, .. } = Hours::of(record);
-            let more = courses[i].weight - others[i].weight;
+            let more = course.weight - other.weight;
             let expected = if edition == 2 { laboratory % 2 } else { -(laboratory % 2) };
             self.same(&pair.terms, "more weight than by the other edition", more, expected)?;
         }
@@ -244,15 +245,15 @@ impl Both<'_> {
     }
 }
 
-/// The list with another letter in place of each course's.
+/// The list with a byte that is no letter in place of each course's.
 fn without_courses(list: &[u8]) -> Vec<u8> {
     let mut list = list.to_vec();
     list.chunks_mut(RECORD).filter(|record| record[0] == C).for_each(|record| record[0] = 0);
     list
 }
 
-/// The weight that an hours record gives, in halves of a credit: rounded down as they
-/// are by edition 1, and with one half more by edition 2.
+/// The weight that an hours record gives, reckoned apart: in halves of a credit, with one
+/// more by edition 2, and a half that is left over is dropped.
 fn weight_apart(record: &[u8]) -> i64 {
     let hours = Hours::of(record);
     (2 * hours.lecture + hours.laboratory + hours.edition as i64 - 1) / 2
@@ -291,7 +292,7 @@ fn note_refused(list: &str, number: u8, cause: Option<&str>, note: &mut dyn FnMu
 fn cause_in_terms(terms: &[u8], number: u8, place: usize) -> Option<&'static str> {
     match number {
         1 => Some(cause_in_length(terms)),
-        2 => Some(cause_in_letter(terms[RECORD * place])),
+        2 => terms.get(RECORD * place).map(|&letter| cause_in_letter(letter)),
         3 if place == MOST_TERMS => Some("a 17th term"),
         _ => None,
     }
