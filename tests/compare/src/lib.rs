@@ -1,6 +1,7 @@
 //! The library, through its boundary, as a planner that the independent program can be compared with.
 
 use independent::filter::Answer;
+use independent::hours::{Joined, List};
 use independent::planner::Planner;
 use turfsteeple::packed;
 
@@ -42,6 +43,24 @@ impl Planner for Library {
             |number| matches!(number, 0..=7 | 14),
             |number| matches!(number, 0 | 2..=7),
         )
+    }
+
+    fn join(&self, terms: &[u8], hours: &[u8], out: &mut [u8]) -> Joined {
+        let answer = packed::join(terms, hours, out);
+        let (number, value) = (packed::number(answer), packed::value(answer));
+        let list = match packed::detail(answer) {
+            0 => None,
+            1 => Some(List::Terms),
+            2 => Some(List::Hours),
+            _ => panic!("join answers {answer:#x}"),
+        };
+        match (number, list) {
+            (0, None) if value == 0 => Joined::Done,
+            (9, None) if value == 0 => Joined::ShortBuffer,
+            (1, Some(list)) if value == 0 => Joined::Refused { list, number, place: 0 },
+            (2..=7, Some(list)) => Joined::Refused { list, number, place: value as usize },
+            _ => panic!("join answers {answer:#x}"),
+        }
     }
 }
 

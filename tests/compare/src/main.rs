@@ -1,7 +1,9 @@
 //! Compares the library, through its boundary, with the independent program. Arguments: how many lists from the fixed
 //! seeds and from a seed of the clock together (default 100,000), and at will a seed to run in place of the clock's.
-//! The first mismatch is printed, with its list in hex and both listings, and ends the run with 1.
+//! Half as many pairs of lists are joined. The first mismatch is printed, with its list in hex and both listings, and
+//! ends the run with 1.
 
+use std::ops::Range;
 use std::process::ExitCode;
 use std::sync::atomic::{AtomicU64, Ordering};
 use std::sync::Mutex;
@@ -9,8 +11,8 @@ use std::thread;
 use std::time::{Instant, SystemTime, UNIX_EPOCH};
 
 use compare::Library;
-use independent::compare::{run_kind, Counts, Mismatch};
-use independent::generate::{Kind, KINDS};
+use independent::compare::{run_kind, run_pair_kind, Counts, Mismatch};
+use independent::generate::{Kind, PairKind, KINDS, PAIR_KINDS};
 use independent::planner::Independent;
 use independent::traps::Trap;
 
@@ -31,13 +33,29 @@ fn share(kind: Kind) -> u64 {
     }
 }
 
-/// A part of the run: so many lists of a kind from a seed.
-#[derive(Clone, Copy)]
+/// How many of a hundred pairs are of a kind: many of those whose hours list is at fault, in a place or in several.
+fn share_of_pairs(kind: PairKind) -> u64 {
+    match kind {
+        PairKind::Small => 20,
+        PairKind::Large => 10,
+        PairKind::Weights => 15,
+        PairKind::Broken => 25,
+        PairKind::Damaged => 20,
+        PairKind::Arbitrary => 10,
+    }
+}
+
+/// A part of the run: lists or pairs of a kind, with these numbers, from a seed.
 struct Part {
     seed: u64,
-    kind: Kind,
-    first: u64,
-    lists: u64,
+    of: Of,
+    numbers: Range<u64>,
+}
+
+#[derive(Clone, Copy)]
+enum Of {
+    Lists(Kind),
+    Pairs(PairKind),
 }
 
 fn main() -> ExitCode {
@@ -58,7 +76,9 @@ fn main() -> ExitCode {
     match run(&parts(&seeds, lists)) {
         Ok(counts) => {
             print!("{counts}");
-            println!("{} lists compared, no mismatch, {:.0} s", counts.seen(" lists"), start.elapsed().as_secs_f64());
+            let (lists, pairs) = (counts.seen(" lists"), counts.seen(" pairs"));
+            let seconds = start.elapsed().as_secs_f64();
+            println!("{lists} lists and {pairs} pairs compared, no mismatch, {seconds:.0} s");
             ExitCode::SUCCESS
         }
         Err(mismatch) => {
@@ -68,15 +88,16 @@ fn main() -> ExitCode {
     }
 }
 
-/// The run in parts of equal work, the slow kinds first.
+/// The run in parts of 200, the slow kinds first.
 fn parts(seeds: &[u64], lists: u64) -> Vec<Part> {
+    let of_lists = KINDS.into_iter().rev().map(|kind| (Of::Lists(kind), lists * share(kind)));
+    let of_pairs = PAIR_KINDS.into_iter().map(|kind| (Of::Pairs(kind), lists * share_of_pairs(kind) / 2));
     let mut parts = vec![];
-    for kind in KINDS.into_iter().rev() {
+    for (of, hundredfold) in of_lists.chain(of_pairs) {
         for &seed in seeds {
-            let of_kind = (lists * share(kind) + 100 * seeds.len() as u64 - 1) / (100 * seeds.len() as u64);
-            let size = 200;
-            for first in (0..of_kind).step_by(size) {
-                parts.push(Part { seed, kind, first, lists: (of_kind - first).min(size as u64) });
+            let number = (hundredfold + 100 * seeds.len() as u64 - 1) / (100 * seeds.len() as u64);
+            for first in (0..number).step_by(200) {
+                parts.push(Part { seed, of, numbers: first..number.min(first + 200) });
             }
         }
     }
@@ -93,7 +114,7 @@ fn run(parts: &[Part]) -> Result<Counts, Box<Mismatch>> {
             return;
         }
         let mut counts = Counts::default();
-        let outcome = run_part(parts[at], &mut counts);
+        let outcome = run_part(&parts[at], &mut counts);
         let mut result = result.lock().unwrap();
         match (outcome, &mut *result) {
             (Ok(()), Ok(so_far)) => so_far.join(counts),
@@ -109,8 +130,11 @@ fn run(parts: &[Part]) -> Result<Counts, Box<Mismatch>> {
     result.into_inner().unwrap()
 }
 
-fn run_part(part: Part, counts: &mut Counts) -> Result<(), Box<Mismatch>> {
+fn run_part(part: &Part, counts: &mut Counts) -> Result<(), Box<Mismatch>> {
     let independent = Independent { trap: Trap::None };
-    let lists = part.first..part.first + part.lists;
-    run_kind(&independent, &Library, part.kind, lists, part.seed, counts)
+    let numbers = part.numbers.clone();
+    match part.of {
+        Of::Lists(kind) => run_kind(&independent, &Library, kind, numbers, part.seed, counts),
+        Of::Pairs(kind) => run_pair_kind(&independent, &Library, kind, numbers, part.seed, counts),
+    }
 }

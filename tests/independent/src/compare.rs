@@ -1,13 +1,18 @@
-//! The comparison: runs many lists of every kind through two planners and checks
-//! that both answer alike, that lent buffers are left as they must be, and that
-//! what they answer is true of the plans of small years and the placings of settled ones.
+//! The comparison: runs many lists of every kind, and pairs of lists, through two
+//! planners and checks that both answer alike, that lent buffers are left as they must
+//! be, and that what they answer is true of the plans of small years, of the placings of
+//! settled ones and of the hours that a year is joined from.
+
+mod pairs;
+
+pub use pairs::{check_one_pair, run_pair_kind, run_pairs};
 
 use std::collections::BTreeMap;
 use std::fmt;
 use std::ops::Range;
 
 use crate::filter::{years_before, Answer};
-use crate::generate::{self, Kind, Random, KINDS};
+use crate::generate::{self, Kind, Pair, Random, KINDS};
 use crate::narrow::Narrowing;
 use crate::planner::Planner;
 use crate::plans;
@@ -34,15 +39,15 @@ pub const BY_A_THRESHOLD: &str = "NOPLAN 11 by a threshold";
 pub const ONLY_AT_HALF: &str = "NOPLAN 11 only at c/2";
 pub const ONLY_AT_A_TERM: &str = "NOPLAN 11 only at a term's size";
 
-/// How often each outcome was seen, by kind of list.
+/// How often each outcome was seen, by kind of lists or of pairs.
 #[derive(Clone, Debug, Default)]
 pub struct Counts {
     pub by_kind: BTreeMap<String, BTreeMap<String, u64>>,
 }
 
 impl Counts {
-    fn add(&mut self, kind: Kind, outcome: String) {
-        *self.by_kind.entry(format!("{kind:?}")).or_default().entry(outcome).or_default() += 1;
+    fn add(&mut self, kind: &str, outcome: String) {
+        *self.by_kind.entry(kind.to_string()).or_default().entry(outcome).or_default() += 1;
     }
 
     /// Adds what was seen elsewhere.
@@ -80,26 +85,42 @@ impl fmt::Display for Counts {
     }
 }
 
-/// A difference between two planners, or between a planner and the truth.
+/// A difference between two planners, or between a planner and the truth. With a pair,
+/// the list is the one that the pair was joined to, empty where it is refused.
 #[derive(Clone, Debug)]
 pub struct Mismatch {
     pub what: String,
-    pub kind: Option<Kind>,
+    pub kind: Option<String>,
     pub index: u64,
     pub seed: u64,
+    pub pair: Option<Pair>,
     pub list: Vec<u8>,
     pub names: [String; 2],
     pub listings: [String; 2],
 }
 
+impl Mismatch {
+    /// The mismatch with the kind, the number and the seed that make its list again.
+    fn made_from(mut self: Box<Self>, kind: &str, index: u64, seed: u64) -> Box<Self> {
+        self.kind = Some(kind.to_string());
+        self.index = index;
+        self.seed = seed;
+        self
+    }
+}
+
 impl fmt::Display for Mismatch {
     fn fmt(&self, f: &mut fmt::Formatter) -> fmt::Result {
         writeln!(f, "MISMATCH: {}", self.what)?;
-        if let Some(kind) = self.kind {
-            writeln!(f, "kind {kind:?}, list {}, seed {}", self.index, self.seed)?;
+        if let Some(kind) = &self.kind {
+            writeln!(f, "kind {kind}, number {}, seed {}", self.index, self.seed)?;
         }
-        writeln!(f, "list of {} bytes:", self.list.len())?;
-        write!(f, "{}", hex(&self.list))?;
+        let of_pair = self.pair.iter();
+        let of_pair =
+            of_pair.flat_map(|pair| [("term list", &pair.terms), ("hours list", &pair.hours)]);
+        for (name, list) in of_pair.chain([("list", &self.list)]) {
+            write!(f, "{name} of {} bytes:\n{}", list.len(), hex(list))?;
+        }
         for (name, listing) in self.names.iter().zip(&self.listings) {
             write!(f, "listing of {name}:\n{listing}")?;
         }
@@ -155,21 +176,17 @@ pub fn run_kind(
     seed: u64,
     counts: &mut Counts,
 ) -> Result<(), Box<Mismatch>> {
+    let name = format!("{kind:?}");
     for index in lists {
         let mut random = Random::for_list(seed, kind, index);
         let list = generate::list(kind, &mut random);
-        counts.add(kind, " lists".to_string());
+        counts.add(&name, " lists".to_string());
         let both = Both { left, right, behind: random.pick(&BEHIND) };
-        let mut note = |outcome: String| counts.add(kind, outcome);
+        let mut note = |outcome: String| counts.add(&name, outcome);
         let checked = both
             .check_list(&list, &mut random, &mut note)
             .and_then(|answer| both.check_hidden(&list, kind, answer));
-        checked.map_err(|mut mismatch| {
-            mismatch.kind = Some(kind);
-            mismatch.index = index;
-            mismatch.seed = seed;
-            mismatch
-        })?;
+        checked.map_err(|mismatch| mismatch.made_from(&name, index, seed))?;
     }
     Ok(())
 }
@@ -202,6 +219,7 @@ impl Both<'_> {
             kind: None,
             index: 0,
             seed: 0,
+            pair: None,
             list: list.to_vec(),
             names: [self.left.name(), self.right.name()],
             listings: [self.left.listing(list), self.right.listing(list)],
@@ -250,36 +268,45 @@ impl Both<'_> {
 
     /// Filters with a buffer that is long enough; the records with settled or open.
     fn filter(&self, list: &[u8]) -> Checked<(Answer, Vec<u8>)> {
-        let one = |planner: &dyn Planner| {
-            let mut out = vec![PATTERN; list.len() + self.behind];
-            let answer = planner.filter(list, &mut out);
-            (answer, out)
-        };
-        let (left, right) = (one(self.left), one(self.right));
-        self.same(list, "filter's answer", left.0, right.0)?;
-        self.same_buffers(list, "filter's buffer", &left.1, &right.1)?;
-        let (answer, out) = left;
-        let written = matches!(answer, Answer::Settled { .. } | Answer::Open { .. });
-        let length = if written { list.len() } else { 0 };
-        self.demand(untouched(&out[length..]), list, "filter touched bytes it must not")?;
-        Ok((answer, out[..length].to_vec()))
+        let call = |planner: &dyn Planner, out: &mut [u8]| planner.filter(list, out);
+        let writes = |answer| matches!(answer, Answer::Settled { .. } | Answer::Open { .. });
+        self.lent(list, "filter", (list.len(), self.behind), call, writes)
     }
 
     /// Narrows with a buffer that is long enough; the records when done.
     fn narrow(&self, list: &[u8], kind: u32, a: u32, b: u32) -> Checked<(u8, Vec<u8>)> {
+        let what = format!("narrowing {kind} with {a}, {b}");
+        let call = |planner: &dyn Planner, out: &mut [u8]| planner.narrow(list, kind, a, b, out);
+        let writes = |(number, _)| number == 0;
+        let ((number, _), out) = self.lent(list, &what, (list.len(), self.behind), call, writes)?;
+        Ok((number, out))
+    }
+
+    /// A call with a buffer as long as the records and some bytes behind: the answer and
+    /// the buffer are alike, and bytes that are not to be written are left alone. The
+    /// records, with an answer that writes them.
+    fn lent<A: Copy + PartialEq + fmt::Debug>(
+        &self,
+        list: &[u8],
+        what: &str,
+        (length, behind): (usize, usize),
+        call: impl Fn(&dyn Planner, &mut [u8]) -> A,
+        writes: impl Fn(A) -> bool,
+    ) -> Checked<(A, Vec<u8>)> {
         let one = |planner: &dyn Planner| {
-            let mut out = vec![PATTERN; list.len() + self.behind];
-            let answer = planner.narrow(list, kind, a, b, &mut out);
+            let mut out = vec![PATTERN; length + behind];
+            let answer = call(planner, &mut out);
             (answer, out)
         };
         let (left, right) = (one(self.left), one(self.right));
-        let what = format!("narrowing {kind} with {a}, {b}");
-        self.same(list, &what, left.0, right.0)?;
-        self.same_buffers(list, &what, &left.1, &right.1)?;
-        let ((number, _), out) = left;
-        let length = if number == 0 { list.len() } else { 0 };
-        self.demand(untouched(&out[length..]), list, "narrowing touched bytes it must not")?;
-        Ok((number, out[..length].to_vec()))
+        let answer = self.same(list, &format!("answer of {what}"), left.0, right.0)?;
+        self.same_buffers(list, &format!("buffer of {what}"), &left.1, &right.1)?;
+        let mut out = left.1;
+        let written = if writes(answer) { length } else { 0 };
+        let touched = format!("{what} touched bytes it must not");
+        self.demand(untouched(&out[written..]), list, &touched)?;
+        out.truncate(written);
+        Ok((answer, out))
     }
 
     /// A short buffer is refused by 9, before what the call itself refuses, and left

@@ -1,6 +1,11 @@
 //! Seeded makers of years and lists: small years dense in every rule, years with a
 //! hidden plan, the edges of every size, damaged lists, arbitrary bytes, years whose
-//! courses are placed, to be measured, and crowded years, for rule 11.
+//! courses are placed, to be measured, and crowded years, for rule 11. And of pairs of
+//! lists, to be joined.
+
+mod pairs;
+
+pub use pairs::{pair_of_kind, Pair, PairKind, PAIR_KINDS};
 
 use crate::filter::{filter, Answer};
 use crate::records::{bytes, RECORD};
@@ -20,9 +25,19 @@ impl Random {
 
     /// The generator for one numbered list of one kind, from a run's seed.
     pub fn for_list(seed: u64, kind: Kind, index: u64) -> Random {
+        Random::for_place(seed, kind as u64, index)
+    }
+
+    /// The generator for one numbered pair of one kind, from a run's seed. Kinds of pairs
+    /// have their places far behind those of lists, which may become more.
+    pub fn for_pair(seed: u64, kind: PairKind, index: u64) -> Random {
+        Random::for_place(seed, 1_000 + kind as u64, index)
+    }
+
+    fn for_place(seed: u64, place: u64, index: u64) -> Random {
         let mut mixed = Random::new(seed);
         let first = mixed.draw();
-        let mut mixed = Random::new(first ^ (kind as u64 + 1).wrapping_mul(0xA24B_AED4_963E_E407));
+        let mut mixed = Random::new(first ^ (place + 1).wrapping_mul(0xA24B_AED4_963E_E407));
         let second = mixed.draw();
         Random::new(second ^ index.wrapping_mul(0x9FB2_1C65_1E98_DF25))
     }
@@ -419,6 +434,10 @@ fn edge_term(random: &mut Random, year: &Year, j: usize, way: usize) -> Term {
 
 // ---- (d) Damaged lists ----
 
+/// Records with nothing wrong but, at times, their number or their place.
+const GOOD_TERM: Term = Term { low_credits: 0, high_credits: 9, low_count: 0, high_count: 9 };
+const GOOD_COURSE: Course = Course { weight: 1, list: 1 };
+
 /// A good list with one to three faults at once. A fault can hit a place where it
 /// is none, and can be hidden by another; both are wanted.
 pub fn damaged(random: &mut Random) -> Vec<u8> {
@@ -444,31 +463,45 @@ fn damage(random: &mut Random, list: &mut Vec<u8>) {
     let start = RECORD * random.below(records);
     match random.below(11) {
         0 => list[start] = random.pick(&[0x54, 0x43, 0x54, 0x43, 0, 0x74, 0x63, 0xFF]),
-        1 => {
-            let near = list[start + 1].wrapping_add(random.pick(&[1, 0xFF, 2]));
-            list[start + 1] = random.pick(&[near, near, 0, 15, 16, 63, 64, 0xFF]);
-        }
-        2 => {
-            let other = RECORD * random.below(records);
-            for at in 0..RECORD {
-                list.swap(start + at, other + at);
-            }
-        }
+        1 => misnumber(random, list, start),
+        2 => swap_with_another(random, list, start),
         number @ 3..=6 => damage_number(random, list, start, number),
         7 | 8 => {
             let first_zero = if list[start] == 0x54 { 10 } else { 6 };
-            let at = start + random.from(first_zero, 15) as usize;
-            list[at] = random.pick(&[1, 0x80, 0xFF]);
+            fill_a_zero(random, list, start, first_zero);
         }
-        9 => {
-            let cut = random.pick(&[1, 8, 15, 16, 32, 48]).min(list.len());
-            if random.percent(30) {
-                list.drain(..cut);
-            } else {
-                list.truncate(list.len() - cut);
-            }
-        }
+        9 => shorten(random, list),
         _ => lengthen(random, list, start),
+    }
+}
+
+/// Another number in the record that starts here.
+fn misnumber(random: &mut Random, list: &mut [u8], start: usize) {
+    let near = list[start + 1].wrapping_add(random.pick(&[1, 0xFF, 2]));
+    list[start + 1] = random.pick(&[near, near, 0, 15, 16, 63, 64, 0xFF]);
+}
+
+/// The record that starts here in place of another, and that one here.
+fn swap_with_another(random: &mut Random, list: &mut [u8], start: usize) {
+    let other = RECORD * random.below(list.len() / RECORD);
+    for at in 0..RECORD {
+        list.swap(start + at, other + at);
+    }
+}
+
+/// A byte that must be zero, of those from here to the record's end, is not.
+fn fill_a_zero(random: &mut Random, list: &mut [u8], start: usize, first_zero: i64) {
+    let at = start + random.from(first_zero, 15) as usize;
+    list[at] = random.pick(&[1, 0x80, 0xFF]);
+}
+
+/// Bytes taken from the list's front or, mostly, from its end.
+fn shorten(random: &mut Random, list: &mut Vec<u8>) {
+    let cut = random.pick(&[1, 8, 15, 16, 32, 48]).min(list.len());
+    if random.percent(30) {
+        list.drain(..cut);
+    } else {
+        list.truncate(list.len() - cut);
     }
 }
 
@@ -518,10 +551,8 @@ fn lengthen(random: &mut Random, list: &mut Vec<u8>, start: usize) {
 fn past_the_largest(random: &mut Random) -> Vec<u8> {
     let (terms, courses) =
         random.pick(&[(17, 0), (17, 63), (17, 5), (15, 65), (1, 65), (2, 79), (16, 65)]);
-    let term = Term { low_credits: 0, high_credits: 9, low_count: 0, high_count: 9 };
-    let year =
-        Year { terms: vec![term; terms], courses: vec![Course { weight: 1, list: 1 }; courses] };
-    let mut list = bytes(&year);
+    let mut list =
+        bytes(&Year { terms: vec![GOOD_TERM; terms], courses: vec![GOOD_COURSE; courses] });
     if random.percent(50) {
         damage(random, &mut list);
     }
@@ -580,16 +611,26 @@ fn near_valid(random: &mut Random) -> Vec<u8> {
         };
         record.extend(numbers.into_iter().flat_map(|number| (number as u16).to_be_bytes()));
         record.resize(RECORD, 0);
-        if random.percent(faulty) {
-            let at = random.below(RECORD);
-            record[at] = random.draw() as u8;
-        }
+        alter_a_byte(random, faulty, &mut record);
         list.extend(record);
     }
+    cut_off(random, &mut list);
+    list
+}
+
+/// At times any byte of a record becomes any other.
+fn alter_a_byte(random: &mut Random, faulty: u64, record: &mut [u8]) {
+    if random.percent(faulty) {
+        let at = random.below(RECORD);
+        record[at] = random.draw() as u8;
+    }
+}
+
+/// At times a list ends anywhere.
+fn cut_off(random: &mut Random, list: &mut Vec<u8>) {
     if random.percent(10) {
         list.truncate(random.below(list.len() + 1));
     }
-    list
 }
 
 /// The four bounds of a term record, each mostly right.
@@ -598,10 +639,16 @@ fn near_bounds(random: &mut Random, faulty: u64, from_zero: bool) -> Vec<i64> {
     let (low_count, high_count) = pair(random, 0, 64);
     let low = |bound: i64| if from_zero { 0 } else { bound };
     let bounds = [low(low_credits), high_credits, low(low_count), high_count];
-    bounds
-        .into_iter()
-        .map(|bound| if random.percent(faulty) { random.from(0, 65_535) } else { bound })
-        .collect()
+    bounds.into_iter().map(|bound| mostly(random, faulty, bound, 65_535)).collect()
+}
+
+/// The right number, at times any up to the most.
+fn mostly(random: &mut Random, faulty: u64, right: i64, most: i64) -> i64 {
+    if random.percent(faulty) {
+        random.from(0, most)
+    } else {
+        right
+    }
 }
 
 /// The weight and the list of a course record, each mostly right.

@@ -1,11 +1,12 @@
-//! A second program for document 01 and requests A1 and A2 of document 02, written
-//! from their text alone in the most literal form, so that a proved library can be
-//! compared with it.
+//! A second program for document 01 and requests A1 to A3 of document 02, written from
+//! their text alone in the most literal form, so that a proved library can be compared
+//! with it.
 
 pub mod compare;
 pub mod examples;
 pub mod filter;
 pub mod generate;
+pub mod hours;
 pub mod listing;
 pub mod narrow;
 pub mod planner;
@@ -13,6 +14,7 @@ pub mod plans;
 pub mod records;
 pub mod rules;
 pub mod shrink;
+pub mod slips;
 pub mod trace;
 pub mod traps;
 pub mod year;

@@ -1,8 +1,9 @@
 //! The face that every program to compare shows: calls on byte slices. A call reads
-//! the list, then looks at the lent buffer's length, then does what it is for, and
-//! gives back the first refusal: 1 to 7, then 9, then the call's own.
+//! the list, or both lists, then looks at the lent buffer's length, then does what it is
+//! for, and gives back the first refusal: 1 to 7, then 9, then the call's own.
 
 use crate::filter::{filter, Answer};
+use crate::hours::{self, Joined};
 use crate::listing;
 use crate::narrow::{imbalance, narrow, Narrowing};
 use crate::records;
@@ -30,6 +31,11 @@ pub trait Planner {
     /// Reads and measures the imbalance of the year as it stands: the number (0 to
     /// 7, or 14) and the value, which is the place of reading's refusals and 0 with 14.
     fn imbalance(&self, list: &[u8]) -> (u8, u64);
+
+    /// Joins a list of term records and an hours list, and writes the records of the
+    /// year into `out`: they are as long as both lists together. Refused, by 1 to 7 in
+    /// either list or by 9, `out` stays as it was.
+    fn join(&self, terms: &[u8], hours: &[u8], out: &mut [u8]) -> Joined;
 
     /// The listing of a list, as text, to show with a mismatch.
     fn listing(&self, list: &[u8]) -> String {
@@ -93,5 +99,13 @@ impl Planner for Independent {
             Ok(year) => imbalance(&year),
             Err(refusal) => (refusal.number, refusal.place as u64),
         }
+    }
+
+    fn join(&self, terms: &[u8], hours: &[u8], out: &mut [u8]) -> Joined {
+        let (answer, year) = hours::join(terms, hours);
+        if answer == Joined::Done && records::write(&year, out) == 9 {
+            return Joined::ShortBuffer;
+        }
+        answer
     }
 }

@@ -5,8 +5,8 @@ use crate::year::*;
 
 pub const RECORD: usize = 16;
 pub const LONGEST_LIST: usize = 1_280;
-const T: u8 = 0x54;
-const C: u8 = 0x43;
+pub(crate) const T: u8 = 0x54;
+pub(crate) const C: u8 = 0x43;
 
 /// A refusal by its number, with the record's place in the list.
 #[derive(Clone, Copy, Debug, PartialEq, Eq)]
@@ -15,20 +15,44 @@ pub struct Refusal {
     pub place: usize,
 }
 
+/// The first fault of a record, given the year of the records before it; 0 for none.
+pub(crate) type Test = fn(before: &Year, record: &[u8]) -> u8;
+
 /// Reads a list: refusal 1 first, then record by record, within a record 2 to 7.
 pub fn read(list: &[u8]) -> Result<Year, Refusal> {
-    if list.is_empty() || list.len() > LONGEST_LIST || list.len() % RECORD != 0 {
+    read_with(list, fault)
+}
+
+/// Reads a list as above, with this test of a record.
+pub(crate) fn read_with(list: &[u8], fault: Test) -> Result<Year, Refusal> {
+    if list.is_empty() || wrong_length(list, LONGEST_LIST) {
         return Err(Refusal { number: 1, place: 0 });
     }
     let mut year = Year { terms: vec![], courses: vec![] };
+    add(&mut year, list, fault, take)?;
+    Ok(year)
+}
+
+/// 1, but for the length 0: over the longest, or no multiple of 16.
+pub(crate) fn wrong_length(list: &[u8], longest: usize) -> bool {
+    list.len() > longest || list.len() % RECORD != 0
+}
+
+/// Adds a list to a year, record by record. The first fault found is the answer.
+pub(crate) fn add(
+    year: &mut Year,
+    list: &[u8],
+    fault: Test,
+    take: fn(&mut Year, &[u8]),
+) -> Result<(), Refusal> {
     for (place, record) in list.chunks(RECORD).enumerate() {
-        let number = fault(&year, record);
+        let number = fault(year, record);
         if number != 0 {
             return Err(Refusal { number, place });
         }
-        take(&mut year, record);
+        take(year, record);
     }
-    Ok(year)
+    Ok(())
 }
 
 /// The number and place that reading gives back, and the year with them.
@@ -39,8 +63,8 @@ pub fn read_in_full(list: &[u8]) -> (u8, usize, Year) {
     }
 }
 
-/// The first fault of a record, given the year of the records before it; 0 for none.
-fn fault(before: &Year, record: &[u8]) -> u8 {
+/// Reading's test of a record: 2 to 7, in order.
+pub(crate) fn fault(before: &Year, record: &[u8]) -> u8 {
     if wrong_letter(before, record) {
         2
     } else if wrong_number(before, record) {
@@ -68,12 +92,17 @@ fn wrong_letter(before: &Year, record: &[u8]) -> bool {
 
 /// 3: the number is not the next of its kind, or is past the largest year.
 fn wrong_number(before: &Year, record: &[u8]) -> bool {
-    let number = record[1] as usize;
     if record[0] == T {
-        number != before.terms.len() || number >= MOST_TERMS
+        is_not_next(record, before.terms.len(), MOST_TERMS)
     } else {
-        number != before.courses.len() || number >= MOST_COURSES
+        is_not_next(record, before.courses.len(), MOST_COURSES)
     }
+}
+
+/// The record's number is not the next after so many, or is past the most.
+pub(crate) fn is_not_next(record: &[u8], before: usize, most: usize) -> bool {
+    let number = record[1] as usize;
+    number != before || number >= most
 }
 
 /// 4: a weight or bound outside the sizes.
@@ -93,14 +122,17 @@ fn crossed(record: &[u8]) -> bool {
 
 /// 6: term list empty, or naming a term the year lacks.
 fn bad_term_list(before: &Year, record: &[u8]) -> bool {
-    let list = course_of(record).list;
-    record[0] == C && (list == 0 || names_a_missing_term(list, before.terms.len()))
+    record[0] == C && !is_term_list(course_of(record).list, before.terms.len())
 }
 
 /// 7: a byte that must be zero is not.
 fn not_zero(record: &[u8]) -> bool {
     let first_zero = if record[0] == T { 10 } else { 6 };
-    record[first_zero..].iter().any(|&byte| byte != 0)
+    !all_zero(&record[first_zero..])
+}
+
+pub(crate) fn all_zero(bytes: &[u8]) -> bool {
+    bytes.iter().all(|&byte| byte == 0)
 }
 
 /// Adds a faultless record to the year.
@@ -126,7 +158,7 @@ fn course_of(record: &[u8]) -> Course {
 }
 
 /// A number of two bytes, high byte first.
-fn two_bytes(record: &[u8], at: usize) -> i64 {
+pub(crate) fn two_bytes(record: &[u8], at: usize) -> i64 {
     record[at] as i64 * 256 + record[at + 1] as i64
 }
 

@@ -67,11 +67,10 @@ impl Year {
             && self.terms.iter().all(|t| {
                 within_sizes(t) && t.low_credits <= t.high_credits && t.low_count <= t.high_count
             })
-            && self.courses.iter().all(|c| {
-                is_weight(c.weight)
-                    && c.list != 0
-                    && !names_a_missing_term(c.list, self.terms.len())
-            })
+            && self
+                .courses
+                .iter()
+                .all(|c| is_weight(c.weight) && is_term_list(c.list, self.terms.len()))
     }
 }
 
@@ -98,7 +97,8 @@ pub fn within_sizes(term: &Term) -> bool {
         && is_count_bound(term.high_count)
 }
 
-/// The list names a term that a year with this number of terms lacks.
-pub fn names_a_missing_term(list: u32, terms: usize) -> bool {
-    list >> terms != 0
+/// A term list that is not empty and names only terms that a year with this number of
+/// terms has.
+pub fn is_term_list(list: u32, terms: usize) -> bool {
+    list != 0 && list >> terms == 0
 }

@@ -6,6 +6,7 @@ use std::collections::BTreeMap;
 use independent::compare::{self, Counts};
 use independent::filter::Answer;
 use independent::generate::Kind;
+use independent::hours::Joined;
 use independent::planner::{Independent, Planner};
 use independent::plans;
 use independent::records;
@@ -207,6 +208,10 @@ impl Planner for Faulty {
             (fault, (14, _)) => RIGHT.imbalance(&overlooking(fault, list)),
             (_, answer) => answer,
         }
+    }
+
+    fn join(&self, terms: &[u8], hours: &[u8], out: &mut [u8]) -> Joined {
+        RIGHT.join(terms, hours, out)
     }
 }
 
