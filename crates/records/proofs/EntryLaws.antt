@@ -126,9 +126,11 @@ module _ (s : List ℕ) (at terms courses : ℕ) where
   unfolding recordAt
   at-term p = rw p refl
 
-  pub at-course : (eqb (letterAt s at) 84 && eqb courses 0) ≡ false → (eqb (letterAt s at) 67 && leb 1 terms) ≡ true → recordAt s at terms courses ≡ ofCourse (courseRecord s at courses terms)
+  pub at-course : (eqb (letterAt s at) 67 && leb 1 terms) ≡ true → recordAt s at terms courses ≡ ofCourse (courseRecord s at courses terms)
   unfolding recordAt
-  at-course p q = rw (p, q) refl
+  at-course p =
+      let q = and-true (eqb (letterAt s at) 67) (leb 1 terms) p in
+      rw (eqb-true (letterAt s at) 67 (q .0), q .1) refl
 
   pub at-neither : (eqb (letterAt s at) 84 && eqb courses 0) ≡ false → (eqb (letterAt s at) 67 && leb 1 terms) ≡ false → recordAt s at terms courses ≡ Faulty fault.Letter
   unfolding recordAt

@@ -107,7 +107,7 @@ pub fn bad_length(n: usize) -> bool
     (n == 0) | (LONGEST < n) | (n % RECORD != 0)
 }
 
-// Reads a year from any byte string. Terms come first, and one at least.
+// Reads a year from any byte string. Terms come first, and one at least; courses are asked for first, since a list has more of them.
 pub fn read(s: &[u8]) -> Received
     ensures { λ r. ⌜ r ≡ readList (now (s .entry)) ⌝ }
 {
@@ -118,18 +118,7 @@ pub fn read(s: &[u8]) -> Received
     let mut y = blank();
     for k in 0..n / RECORD {
         let at = k * RECORD;
-        if (s[at] == TERM_LETTER) & (y.courses == 0) {
-            match entries::read_term(s, at, y.terms) {
-                AsTerm::Good(t) => {
-                    let j = y.terms;
-                    y.term[j] = t;
-                    y.terms = j + 1;
-                }
-                AsTerm::Faulty(f) => {
-                    return refused(f, k);
-                }
-            }
-        } else if (s[at] == COURSE_LETTER) & (1 <= y.terms) {
+        if (s[at] == COURSE_LETTER) & (1 <= y.terms) {
             match entries::read_course(s, at, y.courses, y.terms) {
                 AsCourse::Good(c) => {
                     let i = y.courses;
@@ -137,6 +126,17 @@ pub fn read(s: &[u8]) -> Received
                     y.courses = i + 1;
                 }
                 AsCourse::Faulty(f) => {
+                    return refused(f, k);
+                }
+            }
+        } else if (s[at] == TERM_LETTER) & (y.courses == 0) {
+            match entries::read_term(s, at, y.terms) {
+                AsTerm::Good(t) => {
+                    let j = y.terms;
+                    y.term[j] = t;
+                    y.terms = j + 1;
+                }
+                AsTerm::Faulty(f) => {
                     return refused(f, k);
                 }
             }

@@ -32,10 +32,10 @@ abbrev μ-loop : tie.MeasureT-loop
 front : (c : tie.At-loop Inv-loop μ-loop) → Front (c .loop .k) (c .loop .y)
 front c = read-front (c .before .before .before .before .before .args .s .now) (c .loop .k) (c .loop .y) (c .loop .inv .1)
 
-term-room : (c : tie.After-t Inv-loop μ-loop) → c .before .before .before .before .before .before .loop .y .terms < 16
+term-room : (c : tie.After-t Inv-loop μ-loop) → c .before .before .before .before .before .before .before .before .loop .y .terms < 16
 term-room c = term-read _ _ _ (c .t .given .0 .0) (sym (c .before .before .read-term .ensures) ∙ c .t .given .1) .room
 
-course-room : (c : tie.After-c Inv-loop μ-loop) → c .before .before .before .before .before .before .before .before .loop .y .courses < 64
+course-room : (c : tie.After-c Inv-loop μ-loop) → c .before .before .before .before .before .before .loop .y .courses < 64
 course-room c = course-read _ _ _ _ (c .c .given .0 .0) (sym (c .before .before .read-course .ensures) ∙ c .c .given .1) .room
 
 -- a record with a fault ends the list
@@ -73,26 +73,26 @@ shared-slice-read-if2 : tie.Need-shared-slice-read-if2 Inv-loop μ-loop
 shared-slice-read-if2 c = search needs
 
 -- src/lib.rt:122:19
-read-term-requires : tie.Need-read-term-requires Inv-loop μ-loop
-read-term-requires c κs = search needs
+read-course-requires : tie.Need-read-course-requires Inv-loop μ-loop
+read-course-requires c κs = (omega arith, front (c .before .before .before) .begun .terms-most)
 
--- src/lib.rt:123:30
-enum-known-t : tie.Need-enum-known-t Inv-loop μ-loop
-enum-known-t c = search needs
-
--- src/lib.rt:125:21
-mul-t : tie.Need-mul-t Inv-loop μ-loop
-mul-t c = omega (arith, term-room (c .before))
+-- src/lib.rt:123:32
+enum-known-c : tie.Need-enum-known-c Inv-loop μ-loop
+enum-known-c c = search needs
 
 -- src/lib.rt:125:21
-element-set-from-t : tie.Need-element-set-from-t Inv-loop μ-loop
-element-set-from-t c = term-room (c .before)
+mul-c : tie.Need-mul-c Inv-loop μ-loop
+mul-c c = omega (arith, course-room (c .before))
 
--- src/lib.rt:126:31
+-- src/lib.rt:125:21
+element-set-from-c : tie.Need-element-set-from-c Inv-loop μ-loop
+element-set-from-c c = course-room (c .before)
+
+-- src/lib.rt:126:33
 add-y : tie.Need-add-y Inv-loop μ-loop
-add-y c = omega (arith, term-room (c .before))
+add-y c = omega (arith, course-room (c .before))
 
--- src/lib.rt:128:32
+-- src/lib.rt:128:34
 enum-known-f : tie.Need-enum-known-f Inv-loop μ-loop
 enum-known-f c = search needs
 
@@ -108,33 +108,33 @@ returns-2 c =
     let l = i .before .before .before in
     let b = l .before .before .before .before .before .args .s .now in
     c .refused2 .ensures
-    ∙ sym (simp (sym (l .before .before .before .bad-length .ensures) ∙ l .before .before .if1 .left) (stops b (l .loop .k) (l .loop .y) _ (omega arith) (l .loop .inv .1) (at-term b (l .loop .k * 16) (l .loop .y .terms) (l .loop .y .courses) (i .if2 .taken) ∙ ap ofTerm (sym (c .before .before .before .before .read-term .ensures) ∙ c .before .before .f .given .1))))
+    ∙ sym (simp (sym (l .before .before .before .bad-length .ensures) ∙ l .before .before .if1 .left) (stops b (l .loop .k) (l .loop .y) _ (omega arith) (l .loop .inv .1) (at-course b (l .loop .k * 16) (l .loop .y .terms) (l .loop .y .courses) (i .if2 .taken) ∙ ap ofCourse (sym (c .before .before .before .before .read-course .ensures) ∙ c .before .before .f .given .1))))
 
 -- src/lib.rt:132:20
 shared-slice-read-if3 : tie.Need-shared-slice-read-if3 Inv-loop μ-loop
 shared-slice-read-if3 c = search needs
 
 -- src/lib.rt:133:19
-read-course-requires : tie.Need-read-course-requires Inv-loop μ-loop
-read-course-requires c κs = (omega arith, front (c .before .before .before .before .before) .begun .terms-most)
+read-term-requires : tie.Need-read-term-requires Inv-loop μ-loop
+read-term-requires c κs = search needs
 
--- src/lib.rt:134:32
-enum-known-c : tie.Need-enum-known-c Inv-loop μ-loop
-enum-known-c c = search needs
-
--- src/lib.rt:136:21
-mul-c : tie.Need-mul-c Inv-loop μ-loop
-mul-c c = omega (arith, course-room (c .before))
+-- src/lib.rt:134:30
+enum-known-t : tie.Need-enum-known-t Inv-loop μ-loop
+enum-known-t c = search needs
 
 -- src/lib.rt:136:21
-element-set-from-c : tie.Need-element-set-from-c Inv-loop μ-loop
-element-set-from-c c = course-room (c .before)
+mul-t : tie.Need-mul-t Inv-loop μ-loop
+mul-t c = omega (arith, term-room (c .before))
 
--- src/lib.rt:137:33
+-- src/lib.rt:136:21
+element-set-from-t : tie.Need-element-set-from-t Inv-loop μ-loop
+element-set-from-t c = term-room (c .before)
+
+-- src/lib.rt:137:31
 add-y-2 : tie.Need-add-y-2 Inv-loop μ-loop
-add-y-2 c = omega (arith, course-room (c .before))
+add-y-2 c = omega (arith, term-room (c .before))
 
--- src/lib.rt:139:34
+-- src/lib.rt:139:32
 enum-known-f-2 : tie.Need-enum-known-f-2 Inv-loop μ-loop
 enum-known-f-2 c = search needs
 
@@ -150,7 +150,7 @@ returns-3 c =
     let l = i .before .before .before .before .before in
     let b = l .before .before .before .before .before .args .s .now in
     c .refused3 .ensures
-    ∙ sym (simp (sym (l .before .before .before .bad-length .ensures) ∙ l .before .before .if1 .left) (stops b (l .loop .k) (l .loop .y) _ (omega arith) (l .loop .inv .1) (at-course b (l .loop .k * 16) (l .loop .y .terms) (l .loop .y .courses) (i .before .before .if2 .left) (i .if3 .taken) ∙ ap ofCourse (sym (c .before .before .before .before .read-course .ensures) ∙ c .before .before .f2 .given .1))))
+    ∙ sym (simp (sym (l .before .before .before .bad-length .ensures) ∙ l .before .before .if1 .left) (stops b (l .loop .k) (l .loop .y) _ (omega arith) (l .loop .inv .1) (at-term b (l .loop .k * 16) (l .loop .y .terms) (l .loop .y .courses) (i .if3 .taken) ∙ ap ofTerm (sym (c .before .before .before .before .read-term .ensures) ∙ c .before .before .f2 .given .1))))
 
 -- src/lib.rt:144:13
 refused-requires-4 : tie.Need-refused-requires-4 Inv-loop μ-loop
@@ -164,7 +164,7 @@ returns-4 c =
     let l = i .before .before .before .before .before in
     let b = l .before .before .before .before .before .args .s .now in
     c .refused4 .ensures
-    ∙ sym (simp (sym (l .before .before .before .bad-length .ensures) ∙ l .before .before .if1 .left) (stops b (l .loop .k) (l .loop .y) _ (omega arith) (l .loop .inv .1) (at-neither b (l .loop .k * 16) (l .loop .y .terms) (l .loop .y .courses) (i .before .before .if2 .left) (i .if3 .left))))
+    ∙ sym (simp (sym (l .before .before .before .bad-length .ensures) ∙ l .before .before .if1 .left) (stops b (l .loop .k) (l .loop .y) _ (omega arith) (l .loop .inv .1) (at-neither b (l .loop .k * 16) (l .loop .y .terms) (l .loop .y .courses) (i .if3 .left) (i .before .before .if2 .left))))
 
 -- src/lib.rt:119:9
 add-k : tie.Need-add-k Inv-loop μ-loop
@@ -184,8 +184,8 @@ loop-again c =
     let more : readTo s (k + 1) ≡ taken y k (recordIn s k y) = ap (readTo s) (add-one k) ∙ gathered-more (recordIn s) blankYear k y (l .loop .inv .1) in (
       search needs,
       ⊎-elim
-      (λ w. more ∙ ap (taken y k) (at-term s (k * 16) (y .terms) (y .courses) (w .0 .taken) ∙ ap ofTerm (sym (w .1 .ensures) ∙ w .3 .given .1)) ∙ ap done (sym (w .5)))
-      (λ w. more ∙ ap (taken y k) (at-course s (k * 16) (y .terms) (y .courses) (w .0 .left) (w .2 .taken) ∙ ap ofCourse (sym (w .3 .ensures) ∙ w .5 .given .1)) ∙ ap done (sym (w .7)))
+      (λ w. more ∙ ap (taken y k) (at-course s (k * 16) (y .terms) (y .courses) (w .0 .taken) ∙ ap ofCourse (sym (w .1 .ensures) ∙ w .3 .given .1)) ∙ ap done (sym (w .5)))
+      (λ w. more ∙ ap (taken y k) (at-term s (k * 16) (y .terms) (y .courses) (w .2 .taken) ∙ ap ofTerm (sym (w .3 .ensures) ∙ w .5 .given .1)) ∙ ap done (sym (w .7)))
       (c .if2 .came),
     )
 
@@ -210,19 +210,19 @@ read-spec =
     loop-holds
     mul-at
     shared-slice-read-if2
-    read-term-requires
-    enum-known-t
-    mul-t
-    element-set-from-t
+    read-course-requires
+    enum-known-c
+    mul-c
+    element-set-from-c
     add-y
     enum-known-f
     refused-requires-2
     returns-2
     shared-slice-read-if3
-    read-course-requires
-    enum-known-c
-    mul-c
-    element-set-from-c
+    read-term-requires
+    enum-known-t
+    mul-t
+    element-set-from-t
     add-y-2
     enum-known-f-2
     refused-requires-3
