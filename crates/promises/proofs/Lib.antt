@@ -8,6 +8,8 @@ pub mod ImbalancePlan
 pub mod Answers
 pub mod Codes
 pub mod RoundTrip
+pub mod Tells
+pub mod Judging
 pub mod RefusalRows
 pub mod Refusals
 pub mod Sequence

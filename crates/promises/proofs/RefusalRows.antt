@@ -1,104 +1,15 @@
 -- Each row of the paper's table, 1 to 7: the test that reading makes tells whether the list, or a record of it, is wrong by that row.
-use Prim.Native.Nat.{ℕ, _+_, _-_, _*_, _/_, _%_, _^_, _≤_, _<_}
-use mathlib.Core.Bool.{Bool, true, false, not, _&&_, _||_, true≢false}
+use Prim.Native.Nat.{ℕ, _*_, _/_, _%_, _^_, _≤_, _<_}
+use mathlib.Core.Bool.{not, _||_}
 use mathlib.Core.List.{List}
 use mathlib.Core.Logic.{_⊎_, inl, inr, ⊎-elim}
-use mathlib.Core.Path.{_≡_, refl, sym, ap, _∙_}
-use native.Mathlib.Nat.{div-eq-of-lt, div-lt-iff-lt-mul, one-mul}
+use mathlib.Core.Path.{_≡_}
 use native.Mathlib.Omega.{arith}
-use native.Mathlib.Decide.{ℕ-discrete, decLt}
-use lib.Dec.{eqb, leb, ltb}
-use lib.Pow.{pow-pos}
-use borrow.Author.Tests.{ltb-true, ltb-false, leb-true, leb-false, eqb-true, eqb-false, eq-eqb, not-true, not-false}
-use Rattle.theory.proofs.BitLaws.{has-above, has-below}
-use Rattle.theory.proofs.TestLaws.{all-at, all-false}
-use Rattle.records.specs.Bytes.{byteAt, blankAt, blankFrom}
-use Rattle.records.specs.Reading.{badNumber, badBounds, badOrder, badWeight, badList, badLength}
+use lib.Dec.{eqb, ltb}
+use Rattle.records.specs.Bytes.{blankFrom}
+use Rattle.records.specs.Reading.{bearsNext, badBounds, badOrder, badWeight, badList, badLength}
+use Rattle.promises.proofs.Tells.{Tells, tells-eq, tells-lt, tells-not, tells-or, tells-same, tells-number, tells-blank, tells-weight, tells-list}
 use Rattle.promises.specs.Refusals.{T, C, byteOf, wordOf, before, BadLength, empty, too-long, no-multiple, Wrong, neither-letter, course-first, term-behind-course, not-next-term, not-next-course, past-terms, past-courses, low-credits-outside, high-credits-outside, low-count-outside, high-count-outside, weightless, too-heavy, credits-crossed, counts-crossed, list-empty, term-lacking, term-not-zero, course-not-zero}
-
--- ---- tests that tell
-
--- the test passes only where the fact holds, and fails only where it does not
-abbrev pub Tells : Bool → Type 0 → Type 0
-Tells b P = (b ≡ true → P) × (b ≡ false → P → ⊥)
-
-pub tells-eq : (a b : ℕ) → Tells (eqb a b) (a ≡ b)
-tells-eq a b = (eqb-true a b, eqb-false a b)
-
-tells-lt : (a b : ℕ) → Tells (ltb a b) (a < b)
-tells-lt a b = (ltb-true a b, λ e h. omega (arith, ltb-false a b e))
-
-pub tells-le : (a b : ℕ) → Tells (leb a b) (a ≤ b)
-tells-le a b = (leb-true a b, λ e h. omega (arith, leb-false a b e))
-
-tells-not : {P : Type 0} (b : Bool) → Tells b P → Tells (not b) (P → ⊥)
-tells-not b t = (λ e. t .1 (not-true b e), λ e n. n (t .0 (not-false b e)))
-
-pub tells-and : {P Q : Type 0} (a b : Bool) → Tells a P → Tells b Q → Tells (a && b) (P × Q)
-tells-and true b p q = (λ e. (p .0 refl, q .0 e), λ e r. q .1 e (r .1))
-tells-and false b p q = (λ e. absurd (true≢false (sym e)), λ e r. p .1 refl (r .0))
-
-tells-or : {P Q : Type 0} (a b : Bool) → Tells a P → Tells b Q → Tells (a || b) (P ⊎ Q)
-tells-or true b p q = (λ e. inl (p .0 refl), λ e. absurd (true≢false e))
-tells-or false b p q = (λ e. inr (q .0 e), λ e. ⊎-elim (p .1 refl) (q .1 e))
-
--- the same of a fact that holds exactly where the other does
-tells-same : {P Q : Type 0} (b : Bool) → Tells b P → (P → Q) → (Q → P) → Tells b Q
-tells-same b t there back = (λ e. there (t .0 e), λ e q. t .1 e (back q))
-
--- ---- the tests of a record
-
--- what is told of the next number is told of the number that is the next
-where-next : {P Q : Type 0} (b n : ℕ) → (b ≡ n → P → Q) → (b ≡ n → ⊥) ⊎ P → (b ≡ n → ⊥) ⊎ Q
-where-next b n f (inl d) = inl d
-where-next {P} {Q} b n f (inr p) = go (ℕ-discrete b n)
-  where
-    go : Dec (b ≡ n) → (b ≡ n → ⊥) ⊎ Q
-    go (yes e) = inr (f e p)
-    go (no d) = inl d
-
--- the number is not the next, or is past the largest year
-tells-number : (s : List ℕ) (at next most : ℕ) → Tells (badNumber s at next most) ((byteAt s at 1 ≡ next → ⊥) ⊎ (most ≤ byteAt s at 1))
-tells-number s at next most =
-    let b = byteAt s at 1 in
-    tells-same (badNumber s at next most)
-    (tells-or (not (eqb b next)) (leb most next) (tells-not (eqb b next) (tells-eq b next)) (tells-le most next))
-    (where-next b next (λ e h. omega arith))
-    (where-next b next (λ e h. omega arith))
-
--- a byte from byte k on is not zero
-tells-blank : (s : List ℕ) (at k : ℕ) → Tells (not (blankFrom s at k)) ((b : ℕ) × (k ≤ b) × (b < 16) × (byteAt s at b ≡ 0 → ⊥))
-tells-blank s at k = (there, back)
-  where
-    there : not (blankFrom s at k) ≡ true → (b : ℕ) × (k ≤ b) × (b < 16) × (byteAt s at b ≡ 0 → ⊥)
-    there e =
-        let r = all-false (16 - k) (blankAt s at k) (not-true (blankFrom s at k) e) in
-        (k + r .0, omega arith, omega (arith, r .1), eqb-false _ _ (r .2))
-
-    back : not (blankFrom s at k) ≡ false → ((b : ℕ) × (k ≤ b) × (b < 16) × (byteAt s at b ≡ 0 → ⊥)) → ⊥
-    back e (b, low, high, n) =
-        let is : k + (b - k) ≡ b = omega arith in
-        let z = eqb-true (byteAt s at (k + (b - k))) 0 (all-at (16 - k) (blankAt s at k) (not-false (blankFrom s at k) e) (b - k) (omega arith)) in
-        n (ap (byteAt s at) (sym is) ∙ z)
-
--- a list names a term from m on
-tells-lacking : (l m : ℕ) → Tells (not (eqb (l / 2 ^ m) 0)) ((j : ℕ) × (m ≤ j) × (l / 2 ^ j % 2 ≡ 1))
-tells-lacking l m = tells-same (not (eqb (l / 2 ^ m) 0)) (tells-not (eqb (l / 2 ^ m) 0) (tells-eq (l / 2 ^ m) 0)) there back
-  where
-    enough : (l / 2 ^ m ≡ 0 → ⊥) → Dec (l < 2 ^ m) → 2 ^ m ≤ l
-    enough n (yes h) = absurd (n (div-eq-of-lt h))
-    enough n (no h) = omega (arith, h)
-
-    there : (l / 2 ^ m ≡ 0 → ⊥) → (j : ℕ) × (m ≤ j) × (l / 2 ^ j % 2 ≡ 1)
-    there n =
-        let r = has-above m l (enough n (decLt l (2 ^ m))) in
-        (r .0, r .1, eqb-true _ _ (r .2))
-
-    back : ((j : ℕ) × (m ≤ j) × (l / 2 ^ j % 2 ≡ 1)) → l / 2 ^ m ≡ 0 → ⊥
-    back (j, h, b) z =
-        let few : l / 2 ^ m < 1 = omega arith in
-        let below : l < 2 ^ m = rw one-mul at (div-lt-iff-lt-mul (pow-pos m) .0 few) in
-        omega (arith, has-below m l j below (eq-eqb (l / 2 ^ j % 2) 1 b))
 
 -- ---- row 1
 
@@ -124,8 +35,8 @@ module _ (s : List ℕ) (k : ℕ) (is : byteOf s k 0 ≡ T) where
   term-letter none (course-first z c) = omega arith
   term-letter none (term-behind-course t h) = omega arith
 
-  pub term-number : Tells (badNumber s (k * 16) (before s T k) 16) (Wrong s k 3)
-  term-number = tells-same (badNumber s (k * 16) (before s T k) 16) (tells-number s (k * 16) (before s T k) 16) (⊎-elim (not-next-term is) (past-terms is)) back
+  pub term-number : Tells (not (bearsNext s (k * 16) (before s T k) 16)) (Wrong s k 3)
+  term-number = tells-same (not (bearsNext s (k * 16) (before s T k) 16)) (tells-number s (k * 16) (before s T k) 16) (⊎-elim (not-next-term is) (past-terms is)) back
     where
       back : Wrong s k 3 → (byteOf s k 1 ≡ before s T k → ⊥) ⊎ (16 ≤ byteOf s k 1)
       back (not-next-term t d) = inl d
@@ -182,8 +93,8 @@ module _ (s : List ℕ) (k : ℕ) (is : byteOf s k 0 ≡ C) where
   course-letter some (course-first z c) = omega arith
   course-letter some (term-behind-course t h) = omega arith
 
-  pub course-number : Tells (badNumber s (k * 16) (before s C k) 64) (Wrong s k 3)
-  course-number = tells-same (badNumber s (k * 16) (before s C k) 64) (tells-number s (k * 16) (before s C k) 64) (⊎-elim (not-next-course is) (past-courses is)) back
+  pub course-number : Tells (not (bearsNext s (k * 16) (before s C k) 64)) (Wrong s k 3)
+  course-number = tells-same (not (bearsNext s (k * 16) (before s C k) 64)) (tells-number s (k * 16) (before s C k) 64) (⊎-elim (not-next-course is) (past-courses is)) back
     where
       back : Wrong s k 3 → (byteOf s k 1 ≡ before s C k → ⊥) ⊎ (64 ≤ byteOf s k 1)
       back (not-next-term t d) = absurd (omega arith)
@@ -191,31 +102,24 @@ module _ (s : List ℕ) (k : ℕ) (is : byteOf s k 0 ≡ C) where
       back (not-next-course c d) = inl d
       back (past-courses c h) = inr h
 
-  pub course-size : Tells (badWeight s (k * 16)) (Wrong s k 4)
-  course-size =
-      tells-same (badWeight s (k * 16))
-      (tells-or (ltb (wordOf s k 2) 1) (ltb 1000 (wordOf s k 2)) (tells-lt (wordOf s k 2) 1) (tells-lt 1000 (wordOf s k 2)))
-      (⊎-elim (λ h. weightless is (omega arith)) (too-heavy is))
-      back
+  pub course-size : Tells (badWeight (wordOf s k 2)) (Wrong s k 4)
+  course-size = tells-same (badWeight (wordOf s k 2)) (tells-weight (wordOf s k 2)) (⊎-elim (weightless is) (too-heavy is)) back
     where
-      back : Wrong s k 4 → wordOf s k 2 < 1 ⊎ 1000 < wordOf s k 2
+      back : Wrong s k 4 → (wordOf s k 2 ≡ 0) ⊎ 1000 < wordOf s k 2
       back (low-credits-outside t h) = absurd (omega arith)
       back (high-credits-outside t h) = absurd (omega arith)
       back (low-count-outside t h) = absurd (omega arith)
       back (high-count-outside t h) = absurd (omega arith)
-      back (weightless c z) = inl (omega arith)
+      back (weightless c z) = inl z
       back (too-heavy c h) = inr h
 
   pub course-order : Wrong s k 5 → ⊥
   course-order (credits-crossed t h) = omega arith
   course-order (counts-crossed t h) = omega arith
 
-  pub course-list : Tells (badList s (k * 16) (before s T k)) (Wrong s k 6)
+  pub course-list : Tells (badList (wordOf s k 4) (before s T k)) (Wrong s k 6)
   course-list =
-      tells-same (badList s (k * 16) (before s T k))
-      (tells-or (eqb (wordOf s k 4) 0) (not (eqb (wordOf s k 4 / 2 ^ before s T k) 0)) (tells-eq (wordOf s k 4) 0) (tells-lacking (wordOf s k 4) (before s T k)))
-      (⊎-elim (list-empty is) (λ r. term-lacking (r .0) is (r .1) (r .2)))
-      back
+      tells-same (badList (wordOf s k 4) (before s T k)) (tells-list (wordOf s k 4) (before s T k)) (⊎-elim (list-empty is) (λ r. term-lacking (r .0) is (r .1) (r .2))) back
     where
       back : Wrong s k 6 → (wordOf s k 4 ≡ 0) ⊎ ((j : ℕ) × (before s T k ≤ j) × (wordOf s k 4 / 2 ^ j % 2 ≡ 1))
       back (list-empty c z) = inl z

@@ -56,7 +56,7 @@ read-refused s n = go (readList s .answer) refl
   where
     go : (a : Reading) → readList s .answer ≡ a → readList s .year ≡ emptyYear
     go reading.Done e = absurd (n (ap readingNumber e))
-    go (reading.Refused f k) e = ap (λ r. r .year) (list-refused s f k e .0)
+    go (reading.Refused f k) e = ap (λ r. r .year) (list-refused s f k e)
 
 pub fault-has-number : (f : Fault) → faultNumber f ≡ 0 → ⊥
 fault-has-number fault.Length z = omega arith

@@ -1,8 +1,8 @@
 -- What one record that was read says of its bytes, and what it holds.
 use Prim.Native.Nat.{ℕ, _/_, _^_, _≤_, _<_}
-use mathlib.Core.Bool.{Bool, true, false, not, _&&_, _||_}
+use mathlib.Core.Bool.{Bool, true, false, not, _&&_, _||_, true≢false}
 use mathlib.Core.List.{List}
-use mathlib.Core.Path.{_≡_, refl}
+use mathlib.Core.Path.{_≡_, refl, sym, ap₂, _∙_}
 use native.Mathlib.Omega.{arith}
 use native.Mathlib.Nat.{div-lt-iff-lt-mul, one-mul}
 use lib.Dec.{eqb, leb, ltb}
@@ -21,6 +21,20 @@ use Rattle.records.specs.declared.AsCourse.{AsCourse}
 use Rattle.records.specs.declared.AsCourse.the-variants as asCourse
 use Rattle.records.specs.Bytes.{letterAt, byteAt, wordAt, blankFrom}
 use Rattle.records.specs.Reading.{OfTerm, OfCourse, Faulty, bearsNext, badBounds, badOrder, badWeight, badList, termByItself, courseBy, courseByItself, termRecord, courseRecord, ofTerm, ofCourse, recordAt}
+
+-- ---- tests in one
+
+-- zeros where they must be and neither of two faults
+pub one-test : (zeros a b : Bool) → (zeros && not a && not b) ≡ true → (a ≡ false) × (b ≡ false) × (zeros ≡ true)
+one-test true false false e = (refl, refl, refl)
+one-test true false true e = absurd (true≢false (sym e))
+one-test true true b e = absurd (true≢false (sym e))
+one-test false a b e = absurd (true≢false (sym e))
+
+-- neither fault, and yet not good
+pub left-zeros : (zeros a b : Bool) → (zeros && not a && not b) ≡ false → a ≡ false → b ≡ false → zeros ≡ false
+left-zeros true a b e p q = absurd (true≢false (sym (ap₂ (λ (x y : Bool). not x && not y) p q) ∙ e))
+left-zeros false a b e p q = refl
 
 -- ---- a number that is the next
 

@@ -1,4 +1,4 @@
-// One record: its faults in the paper's order, or the term or course that it holds.
+// One record: the term or course that it holds, or the first of its faults in the paper's order. A good one is known by one test.
 use crate::AsCourse;
 use crate::AsTerm;
 use crate::Fault;
@@ -32,21 +32,23 @@ pub fn term_by_itself(s: &[u8], at: usize) -> AsTerm
     let high = bytes::word(s, at, 4);
     let least = bytes::word(s, at, 6);
     let most = bytes::word(s, at, 8);
-    if (credits.0 < low) | (credits.0 < high) | (count.0 < least) | (count.0 < most) {
+    let outside = (credits.0 < low) | (credits.0 < high) | (count.0 < least) | (count.0 < most);
+    let crossed = (high < low) | (most < least);
+    if bytes::blank_from(s, at, 10) & !outside & !crossed {
+        return AsTerm::Good(Term {
+            low: Credits(low),
+            high: Credits(high),
+            least: Courses(least),
+            most: Courses(most),
+        });
+    }
+    if outside {
         return AsTerm::Faulty(Fault::Size);
     }
-    if (high < low) | (most < least) {
+    if crossed {
         return AsTerm::Faulty(Fault::Order);
     }
-    if !bytes::blank_from(s, at, 10) {
-        return AsTerm::Faulty(Fault::Padding);
-    }
-    AsTerm::Good(Term {
-        low: Credits(low),
-        high: Credits(high),
-        least: Courses(least),
-        most: Courses(most),
-    })
+    AsTerm::Faulty(Fault::Padding)
 }
 
 // A course of a weight and a list, in a year of that many terms, from a record whose other bytes are zero or not.
@@ -56,19 +58,21 @@ pub fn course_by(weight: Credits, list: u32, zeros: bool, terms: usize) -> AsCou
     ensures { λ r. ⌜ r ≡ courseBy (weight .0) list zeros terms ⌝ }
 {
     let heaviest = Year::WEIGHT;
-    if (weight.0 < 1) | (heaviest.0 < weight.0) {
+    let outside = (weight.0 < 1) | (heaviest.0 < weight.0);
+    let unlisted = (list == 0) | (list >> terms != 0);
+    if zeros & !outside & !unlisted {
+        return AsCourse::Good(Course {
+            weight: weight,
+            list: list as u16,
+        });
+    }
+    if outside {
         return AsCourse::Faulty(Fault::Size);
     }
-    if (list == 0) | (list >> terms != 0) {
+    if unlisted {
         return AsCourse::Faulty(Fault::List);
     }
-    if !zeros {
-        return AsCourse::Faulty(Fault::Padding);
-    }
-    AsCourse::Good(Course {
-        weight: weight,
-        list: list as u16,
-    })
+    AsCourse::Faulty(Fault::Padding)
 }
 
 // The record at `at` as a course's, its letter and its number set aside, in a year of that many terms.

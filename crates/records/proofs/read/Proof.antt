@@ -103,7 +103,7 @@ refused-requires-2 c κs = search needs
 -- src/lib.rt:129:21
 returns-2 : tie.Need-returns-2 Inv-loop μ-loop
 unfolding readList
-returns-2 c = 
+returns-2 c =
     let i = c .before .before .before .before .before in
     let l = i .before .before .before in
     let b = l .before .before .before .before .before .args .s .now in
@@ -145,7 +145,7 @@ refused-requires-3 c κs = search needs
 -- src/lib.rt:140:21
 returns-3 : tie.Need-returns-3 Inv-loop μ-loop
 unfolding readList
-returns-3 c = 
+returns-3 c =
     let i = c .before .before .before .before .before in
     let l = i .before .before .before .before .before in
     let b = l .before .before .before .before .before .args .s .now in
@@ -159,7 +159,7 @@ refused-requires-4 c κs = search needs
 -- src/lib.rt:144:13
 returns-4 : tie.Need-returns-4 Inv-loop μ-loop
 unfolding readList
-returns-4 c = 
+returns-4 c =
     let i = c .before in
     let l = i .before .before .before .before .before in
     let b = l .before .before .before .before .before .args .s .now in
@@ -176,7 +176,7 @@ loop-less c = search needs
 
 -- src/lib.rt:119:5
 loop-again : tie.Need-loop-again Inv-loop μ-loop
-loop-again c = 
+loop-again c =
     let l = c .before .before .before in
     let s = l .before .before .before .before .before .args .s .now in
     let k = l .loop .k in
@@ -184,15 +184,15 @@ loop-again c =
     let more : readTo s (k + 1) ≡ taken y k (recordIn s k y) = ap (readTo s) (add-one k) ∙ gathered-more (recordIn s) blankYear k y (l .loop .inv .1) in (
       search needs,
       ⊎-elim
-      (λ w. more ∙ ap (taken y k) (at-course s (k * 16) (y .terms) (y .courses) (w .0 .taken) ∙ ap ofCourse (sym (w .1 .ensures) ∙ w .3 .given .1)) ∙ ap done (sym (w .5)))
-      (λ w. more ∙ ap (taken y k) (at-term s (k * 16) (y .terms) (y .courses) (w .2 .taken) ∙ ap ofTerm (sym (w .3 .ensures) ∙ w .5 .given .1)) ∙ ap done (sym (w .7)))
-      (c .if2 .came),
+          (λ w. more ∙ ap (taken y k) (at-course s (k * 16) (y .terms) (y .courses) (w .0 .taken) ∙ ap ofCourse (sym (w .1 .ensures) ∙ w .3 .given .1)) ∙ ap done (sym (w .5)))
+          (λ w. more ∙ ap (taken y k) (at-term s (k * 16) (y .terms) (y .courses) (w .2 .taken) ∙ ap ofTerm (sym (w .3 .ensures) ∙ w .5 .given .1)) ∙ ap done (sym (w .7)))
+          (c .if2 .came),
     )
 
 -- src/lib.rt:111:1
 returns-5 : tie.Need-returns-5 Inv-loop μ-loop
 unfolding readList
-returns-5 c = 
+returns-5 c =
     let s = c .before .before .before .before .before .before .args .s .now in
     let is : c .before .loop .k ≡ length s / 16 = omega arith in
     sym (simp (sym (c .before .before .before .before .bad-length .ensures) ∙ c .before .before .before .if1 .left) (ap (readTo s) (sym is) ∙ c .before .loop .inv .1))

@@ -3,41 +3,44 @@ use Rattle.records.proofs.entries.course_by.Statement.{statement}
 use Rattle.records.proofs.entries.course_by.Tie as tie
 use Rattle.records.proofs.entries.course_by.Reads as reads
 use Rattle.records.proofs.entries.course_by.Lts as lts
-use borrow.Author.Tests.{not-true, not-false}
-use Rattle.records.specs.Reading.{courseBy}
+use Rattle.records.specs.Reading.{badWeight, badList, courseBy}
+use Rattle.records.proofs.EntryLaws.{one-test, left-zeros}
 
--- src/entries.rt:63:9
-returns : tie.Need-returns
-unfolding courseBy
-returns c = simp (c .if1 .taken)
+-- src/entries.rt:62:43
+cast-unlisted : tie.Need-cast-unlisted
+cast-unlisted c = search needs
 
--- src/entries.rt:65:31
-cast-if2 : tie.Need-cast-if2
-cast-if2 c = search needs
+-- src/entries.rt:62:35
+shr-unlisted : tie.Need-shr-unlisted
+shr-unlisted c = search needs
 
--- src/entries.rt:65:23
-shr-if2 : tie.Need-shr-if2
-shr-if2 c = search needs
-
--- src/entries.rt:66:9
-returns-2 : tie.Need-returns-2
-unfolding courseBy
-returns-2 c = simp (c .before .if1 .left, c .if2 .taken)
-
--- src/entries.rt:69:9
-returns-3 : tie.Need-returns-3
-unfolding courseBy
-returns-3 c = simp (c .before .before .if1 .left, c .before .if2 .left, not-true (c .before .before .before .before .before .before .args .zeros) (c .if3 .taken))
-
--- src/entries.rt:73:15
+-- src/entries.rt:66:19
 cast-t14 : tie.Need-cast-t14
 cast-t14 c = search needs
 
--- src/entries.rt:56:1
+-- src/entries.rt:64:9
+returns : tie.Need-returns
+unfolding courseBy
+returns c = 
+    let a = c .before .before .before .before .args in
+    let q = one-test (a .zeros) (badWeight (a .weight .0)) (badList (a .list) (a .terms)) (c .if1 .taken) in
+    simp (q .0, q .1, q .2)
+
+-- src/entries.rt:70:9
+returns-2 : tie.Need-returns-2
+unfolding courseBy
+returns-2 c = simp (c .if2 .taken)
+
+-- src/entries.rt:73:9
+returns-3 : tie.Need-returns-3
+unfolding courseBy
+returns-3 c = simp (c .before .if2 .left, c .if3 .taken)
+
+-- src/entries.rt:55:1
 returns-4 : tie.Need-returns-4
 unfolding courseBy
-returns-4 c = simp (c .before .before .if1 .left, c .before .if2 .left, not-false (c .before .before .before .before .before .before .args .zeros) (c .if3 .left))
+returns-4 c = simp (c .before .if2 .left, c .if3 .left, left-zeros (c .before .before .before .before .before .before .args .zeros) _ _ (c .before .before .if1 .left) (c .before .if2 .left) (c .if3 .left))
 
 pub course-by-spec : {M : Type 1} → statement M
 course-by-spec =
-    tie.close (tie.spec returns cast-if2 shr-if2 returns-2 returns-3 cast-t14 returns-4)
+    tie.close (tie.spec cast-unlisted shr-unlisted cast-t14 returns returns-2 returns-3 returns-4)
