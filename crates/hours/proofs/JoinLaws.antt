@@ -16,6 +16,7 @@ use Rattle.year.specs.Sound.{Sound}
 use Rattle.year.specs.declared.Term.{Term}
 use Rattle.year.specs.declared.Course.{Course}
 use Rattle.year.specs.declared.Year.{Year}
+use Rattle.records.specs.Bytes.{letterAt}
 use Rattle.records.specs.declared.Fault.{Fault}
 use Rattle.records.specs.declared.Reading.{Reading}
 use Rattle.records.specs.declared.Reading.the-variants as reading
@@ -39,21 +40,30 @@ pub record Terms (s : List ℕ) (k : ℕ) (y : Year) : Type 0 where
   pub begun : Begun y
   pub no-course : y .courses ≡ 0
   pub count : y .terms ≡ k
+  pub letters : (j : ℕ) → j < k → letterAt s (j * 16) ≡ 84
   pub each : (j : ℕ) → j < k → TermHeld s (j * 16) (termAt y j)
 
 terms-start : (s : List ℕ) → Terms s 0 blankYear
-terms-start s = record { begun = begun-blank; no-course = refl; count = refl; each = λ j h. absurd (omega arith) }
+terms-start s = record { begun = begun-blank; no-course = refl; count = refl; letters = λ j h. absurd (omega arith); each = λ j h. absurd (omega arith) }
 
 terms-term : (s : List ℕ) (k : ℕ) (y : Year) (t : Term) → Terms s k y → termEntry s k y ≡ OfTerm t → Terms s (suc k) (addTerm y t)
 terms-term s k y t p e = record {
   begun = begun-term y t (p .begun) (r .room) (rw (sym (r .held .holds)) (r .held .sound)) (p .no-course);
   no-course = p .no-course;
   count = omega (arith, p .count);
+  letters = λ j h. letter j h (ℕ-discrete j k);
   each = λ j h. at j h (ℕ-discrete j k);
 }
   where
+    taken : (letterAt s (k * 16) ≡ 84) × TermRead s (k * 16) (y .terms) t
+    taken = alone-read s (k * 16) (y .terms) t (of-term (termAlone s (k * 16) (y .terms)) t e)
+
     r : TermRead s (k * 16) (y .terms) t
-    r = alone-read s (k * 16) (y .terms) t (of-term (termAlone s (k * 16) (y .terms)) t e) .1
+    r = taken .1
+
+    letter : (j : ℕ) → j < suc k → Dec (j ≡ k) → letterAt s (j * 16) ≡ 84
+    letter j h (yes q) = rw q (taken .0)
+    letter j h (no d) = p .letters j (omega (arith, d))
 
     at : (j : ℕ) → j < suc k → Dec (j ≡ k) → TermHeld s (j * 16) (termAt (addTerm y t) j)
     at j h (yes q) = rw (term-added y t (p .begun) (r .room) j (q ∙ sym (p .count)), q) (r .held)
@@ -164,11 +174,11 @@ module _ (t h : List ℕ) (front : Received) (is : front ≡ termList t) where
 
 -- how a joining ends: refused in the terms' list, or as the hours list behind its year
 module _ (t h : List ℕ) where
-  data Ends : Joined → Type 0 where
+  pub data Ends : Joined → Type 0 where
     in-terms : (f : Fault) (k : ℕ) → termList t .answer ≡ reading.Refused f k → Ends (record { answer = InTerms f k; year = termList t .year })
     behind : termList t .answer ≡ reading.Done → Ends (withHours (termList t .year) h)
 
-  ends : Ends (joinOf t h)
+  pub ends : Ends (joinOf t h)
   unfolding joinOf
   ends = go (termList t .answer) refl
     where
@@ -178,6 +188,8 @@ module _ (t h : List ℕ) where
 
 -- the year of both lists
 pub record Joint (t h : List ℕ) (y : Year) : Type 0 where
+  pub front-done : termList t .answer ≡ reading.Done
+  pub front-same : (y .terms ≡ termList t .year .terms) × (y .term ≡ termList t .year .term)
   pub sound : Sound y
   pub term-bytes : y .terms * 16 ≡ length t
   pub course-bytes : y .courses * 16 ≡ length h
@@ -200,6 +212,8 @@ joint t h = go (joinOf t h) (ends t h)
         let q = hours-done y h (r .0 .begun) (r .0 .no-course) (listed (hoursList y h .answer) e) in
         let many : z .terms ≡ length t / 16 = q .1 .0 ∙ r .0 .count in
         record {
+          front-done = p;
+          front-same = q .1;
           sound = begun-sound z (q .0 .begun) (omega (arith, r .1, many));
           term-bytes = ap (λ (n : ℕ). n * 16) many ∙ r .2;
           course-bytes = ap (λ (n : ℕ). n * 16) (q .0 .count) ∙ q .2;

@@ -5,6 +5,7 @@ use Rattle.promises.proofs.Rounds.{filtering-narrows}
 use Rattle.promises.proofs.Narrowings.{each-narrowing}
 use Rattle.promises.proofs.SettledPlan.{one-placing}
 use Rattle.promises.proofs.ImbalancePlan.{imbalance-means}
+use Rattle.promises.proofs.JoinedYear.{hours-mean}
 use Rattle.promises.proofs.SpareRoom.{spare-room}
 use Rattle.promises.proofs.Decimal.{numbers-read}
 use Rattle.promises.proofs.Listing.{plans-counted, year-e-whole}
@@ -20,6 +21,7 @@ promises M = record {
   demand-2 = demand-2;
   demand-3 = demand-3;
   imbalance-means = imbalance-means;
+  hours-mean = hours-mean;
   year-e = year-e-whole;
   plans-counted = plans-counted;
   numbers-read = numbers-read;

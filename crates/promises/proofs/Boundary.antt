@@ -20,16 +20,22 @@ use Rattle.records.specs.declared.Reading.{Reading}
 use Rattle.records.specs.declared.Reading.the-variants as reading
 use Rattle.records.proofs.ListLaws.{list-read, read-front, read-sound}
 use Rattle.records.proofs.WriteLaws.{records-length, written-is}
+use Rattle.hours.specs.Numbers.{joiningNumber}
+use Rattle.hours.specs.Joining.{joinOf}
+use Rattle.hours.specs.declared.Joining.{Joining}
+use Rattle.hours.specs.declared.Joining.the-variants as joining
+use Rattle.hours.proofs.JoinLaws.{joint}
 use Rattle.filter.specs.Filter.{filterOf}
 use Rattle.filter.specs.Numbers.{filterNumber}
 use Rattle.filter.specs.declared.Answer.{Answer}
 use Rattle.filter.specs.declared.Answer.the-variants.{Settled, Open, NoPlan, Unsound}
-use Rattle.boundary.specs.Calls.{leftWhenRead, filterLeft, filterOut, narrowOf, narrowLeft, narrowOut}
+use Rattle.boundary.specs.Calls.{leftWhenRead, filterLeft, filterOut, narrowOf, narrowLeft, narrowOut, leftWhenJoined, joinOut}
 use Rattle.filter.proofs.RoundLaws.{filter-narrower}
 use Rattle.promises.specs.Narrowings.{Narrow, place, bar, raiseLowCredits, lowerHighCredits, raiseLowCount, lowerHighCount, narrow}
-use Rattle.promises.specs.Boundary.{FilterLeaves, NarrowLeaves, BufferLeft}
+use Rattle.promises.specs.Boundary.{FilterLeaves, NarrowLeaves, JoinLeaves, BufferLeft}
 use Rattle.promises.proofs.Narrowings.{narrow-narrower}
 use Rattle.promises.proofs.RoundTrip.{fault-has-number, read-done}
+use Rattle.promises.proofs.JoinedYear.{join-done}
 
 -- ---- reading
 
@@ -134,5 +140,36 @@ narrow-leaves s kind i j b =
       refused = λ f. left-same (readList s .answer) _ b (choose-any (λ (o : List ℕ). o ≡ b) (ltb (length b) (length s)) b (narrowLeft (n .answer) (n .year) b) refl (narrow-undone (n .answer) f (n .year) b));
     }
 
+-- ---- joining
+
+joined-left : (a : Joining) → joiningNumber a ≡ 0 → (own b : List ℕ) → leftWhenJoined a own b ≡ own
+joined-left joining.Done e own b = refl
+joined-left (joining.InTerms f k) e own b = absurd (fault-has-number f e)
+joined-left (joining.InHours f k) e own b = absurd (fault-has-number f e)
+
+unjoined-left : (a : Joining) → (joiningNumber a ≡ 0 → ⊥) → (own b : List ℕ) → leftWhenJoined a own b ≡ b
+unjoined-left joining.Done n own b = absurd (n refl)
+unjoined-left (joining.InTerms f k) n own b = refl
+unjoined-left (joining.InHours f k) n own b = refl
+
+joined-same : (a : Joining) (own b : List ℕ) → own ≡ b → leftWhenJoined a own b ≡ b
+joined-same joining.Done own b e = e
+joined-same (joining.InTerms f k) own b e = refl
+joined-same (joining.InHours f k) own b e = refl
+
+join-leaves : (t h b : List ℕ) → JoinLeaves t h b
+unfolding joinOut
+join-leaves t h b =
+    let y = joinOf t h .year in
+    let n = length t + length h in record {
+      fills = λ e room.
+          let j = joint t h (join-done t h e) in
+          let l : length (recordsOf y) ≡ n = omega (arith, records-length y, j .term-bytes, j .course-bytes) in
+          joined-left (joinOf t h .answer) e _ b
+          ∙ rw (le-ltb (length b) n room) (written-is y b (j .sound) (omega arith) ∙ ap (λ (m : ℕ). recordsOf y ++ drop m b) l);
+      refused = λ f. unjoined-left (joinOf t h .answer) f _ b;
+      short = λ l. joined-same (joinOf t h .answer) _ b (rw (lt-ltb (length b) n l) refl);
+    }
+
 pub buffer-left : BufferLeft
-buffer-left = record { by-filtering = filter-leaves; by-narrowing = narrow-leaves }
+buffer-left = record { by-filtering = filter-leaves; by-narrowing = narrow-leaves; by-joining = join-leaves }

@@ -19,13 +19,18 @@ use Rattle.records.specs.declared.Fault.{Fault}
 use Rattle.records.specs.declared.Fault.the-variants as fault
 use Rattle.records.specs.declared.Reading.{Reading}
 use Rattle.records.specs.declared.Reading.the-variants as reading
+use Rattle.hours.specs.Numbers.{joiningNumber, joiningList}
+use Rattle.hours.specs.Joining.{joinOf}
+use Rattle.hours.specs.declared.Joining.{Joining}
+use Rattle.hours.specs.declared.Joining.the-variants as joining
+use Rattle.hours.proofs.JoinLaws.{place-few}
 use Rattle.filter.specs.Filter.{filterOf}
 use Rattle.filter.specs.Numbers.{filterNumber}
 use Rattle.filter.specs.declared.Answer.{Answer}
 use Rattle.filter.specs.declared.Answer.the-variants.{Settled, Open, NoPlan, Unsound}
 use Rattle.filter.proofs.RoundLaws.{answer-few}
-use Rattle.boundary.specs.Packed.{Told, told, packed, apart, readingTold, shortTold, narrowingTold, measuredTold, answerTold}
-use Rattle.boundary.specs.Calls.{whenRead, whenRoom, readCode, imbalanceCode, filterCode, narrowOf, narrowCode}
+use Rattle.boundary.specs.Packed.{Told, told, packed, apart, readingTold, joiningTold, shortTold, narrowingTold, measuredTold, answerTold}
+use Rattle.boundary.specs.Calls.{whenRead, whenRoom, readCode, imbalanceCode, filterCode, narrowOf, narrowCode, whenJoined, joinCode}
 use Rattle.boundary.proofs.SmallLaws.{answer-small, detail-small}
 use Rattle.year.proofs.ImbalanceLaws.{imbalance-small}
 use Rattle.promises.specs.Codes.{Tells, CodesDue}
@@ -66,6 +71,19 @@ reading-few (reading.Refused f k) = fault-few f
 
 reading-fits : (s : List ℕ) → Fits (readingTold (readList s .answer))
 reading-fits s = record { number-fits = reading-few (readList s .answer); detail-fits = omega arith; value-fits = omega (arith, answer-small s) }
+
+joining-fits : (t h : List ℕ) → Fits (joiningTold (joinOf t h .answer))
+joining-fits t h = record { number-fits = few (joinOf t h .answer); detail-fits = listed (joinOf t h .answer); value-fits = omega (arith, place-few t h) }
+  where
+    few : (a : Joining) → joiningNumber a < 256
+    few joining.Done = omega arith
+    few (joining.InTerms f k) = fault-few f
+    few (joining.InHours f k) = fault-few f
+
+    listed : (a : Joining) → joiningList a < 256
+    listed joining.Done = omega arith
+    listed (joining.InTerms f k) = omega arith
+    listed (joining.InHours f k) = omega arith
 
 narrowing-fits : (a : Narrowing) → Fits (narrowingTold a)
 narrowing-fits a = record { number-fits = few a; detail-fits = omega arith; value-fits = omega arith }
@@ -111,12 +129,19 @@ read-fits : (a : Reading) (own : Told) → Fits (readingTold a) → Fits own →
 read-fits reading.Done own f g = g
 read-fits (reading.Refused f k) own h g = h
 
+join-fits : (a : Joining) (own : Told) → Fits (joiningTold a) → Fits own → Fits (whenJoined a own)
+join-fits joining.Done own f g = g
+join-fits (joining.InTerms f k) own h g = h
+join-fits (joining.InHours f k) own h g = h
+
 pub codes-due : CodesDue
-unfolding readCode imbalanceCode filterCode narrowCode
+unfolding readCode imbalanceCode filterCode narrowCode joinCode
 codes-due = record {
   by-reading = λ s. tells _ (reading-fits s);
   by-imbalance = λ s. tells _ (read-fits (readList s .answer) _ (reading-fits s) (measured-fits (readList s .year)));
   by-filtering = λ s room. tells _ (read-fits (readList s .answer) _ (reading-fits s) (room-fits room (length s) _ (answer-fits (readList s .year))));
   by-narrowing = λ s kind a b room.
       tells _ (read-fits (readList s .answer) _ (reading-fits s) (room-fits room (length s) _ (narrowing-fits (narrowOf (readList s .year) kind a b .answer))));
+  by-joining = λ t h room.
+      tells _ (join-fits (joinOf t h .answer) _ (joining-fits t h) (room-fits room (length t + length h) _ (record { number-fits = omega arith; detail-fits = omega arith; value-fits = omega arith })));
 }

@@ -12,6 +12,8 @@ pub mod Tells
 pub mod Judging
 pub mod RefusalRows
 pub mod Refusals
+pub mod Joining
+pub mod JoinedYear
 pub mod Sequence
 pub mod SpareRoom
 pub mod Boundary

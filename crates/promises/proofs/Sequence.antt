@@ -1,6 +1,6 @@
 -- Calls one after another: each leaves a year no looser, whose plans are those that meet it; and so do all of them together.
 use Prim.Native.Nat.{ℕ, _<_}
-use mathlib.Core.Bool.{true}
+use mathlib.Core.Bool.{Bool, true, false}
 use mathlib.Core.List.{List, [], _∷_}
 use mathlib.Core.Logic.{_↔_}
 use mathlib.Core.Path.{_≡_, refl, sym, ap, subst, _∙_}
@@ -9,27 +9,31 @@ use native.Mathlib.Decide.{ℕ-discrete}
 use lib.Dec.{eqb}
 use lib.ListN.{length, take}
 use borrow.Author.Tests.{eqb-true}
+use Rattle.theory.specs.Choice.{choose}
 use Rattle.theory.proofs.ChoiceLaws.{choose-case}
 use Rattle.year.specs.Numbers.{narrowingNumber}
 use Rattle.year.specs.Plans.{Placing, Plan, thePlacing}
-use Rattle.year.specs.Sound.{Sound}
+use Rattle.year.specs.Sound.{isSound, Sound}
+use Rattle.year.proofs.SoundLaws.{sound-of}
 use Rattle.year.specs.declared.Year.{Year}
 use Rattle.records.specs.Numbers.{writingNumber}
 use Rattle.records.specs.Reading.{readList}
 use Rattle.records.specs.Writing.{recordsOf, writeAnswer, written}
 use Rattle.filter.specs.Filter.{filterOf}
 use Rattle.filter.specs.Numbers.{isSettled}
+use Rattle.records.proofs.ListLaws.{read-sound}
 use Rattle.records.proofs.WriteRead.{write-read}
 use Rattle.filter.proofs.RoundLaws.{filter-narrower}
 use Rattle.rules.proofs.Alike.{Alike, alike-narrower, credits-alike, count-alike}
 use Rattle.rules.specs.Narrower.{Narrower}
 use Rattle.rules.proofs.Narrows.{narrower-self, narrower-then}
 use Rattle.promises.specs.Narrowings.{Narrow, place, bar, raiseLowCredits, lowerHighCredits, raiseLowCount, lowerHighCount, narrow, Meets}
-use Rattle.promises.specs.Sequence.{Call, narrowBy, filter, writeAndRead, result, readBack, after, Asks, MeetsAll, PlanThatMeets}
+use Rattle.promises.specs.Sequence.{Origin, value, records, hours, start, Call, narrowBy, filter, writeAndRead, result, readBack, after, Asks, MeetsAll, PlanThatMeets}
 use Rattle.promises.proofs.Narrowings.{each-narrowing, narrow-narrower}
 use Rattle.promises.proofs.RoundsKept.{filter-kept}
 use Rattle.promises.proofs.SettledPlan.{settled-one}
-use Rattle.promises.proofs.RoundTrip.{wrote}
+use Rattle.promises.proofs.RoundTrip.{read-done, wrote}
+use Rattle.promises.proofs.JoinedYear.{joined-sound}
 
 -- ---- one call
 
@@ -88,6 +92,16 @@ plans-after first (c ∷ cs) y w p =
       λ h. let q = rest .0 h in let r = one .plans p .0 (q .0) in (r .0, (r .1, q .1)),
       λ h. rest .1 (one .plans p .1 (h .0, h .1 .0), h .1 .1),
     )
+
+-- every first year is sound
+pub start-sound : (o : Origin) → start o .number ≡ 0 → Sound (start o .year)
+start-sound (value y) e = go (isSound y) refl e
+  where
+    go : (b : Bool) → isSound y ≡ b → _≡_ {A = ℕ} (choose b 0 8) 0 → Sound y
+    go true p z = sound-of y p
+    go false p z = absurd (omega arith)
+start-sound (records s) e = read-sound s (readList s .year) (read-done s e)
+start-sound (hours t h) e = joined-sound t h e
 
 module _ (first : Year) (calls : List Call) (s : Sound first) where
   pub sequence-narrower : Narrower first (after calls first)

@@ -61,6 +61,10 @@ where-next {P} {Q} b n f (inr p) = go (ℕ-discrete b n)
     go (yes e) = inr (f e p)
     go (no d) = inl d
 
+not-less : {a b : ℕ} → (a < b → ⊥) → Dec (a < b) → b ≤ a
+not-less n (yes h) = absurd (n h)
+not-less n (no h) = omega (arith, h)
+
 -- the number is not the next, or is past the largest year
 pub tells-number : (s : List ℕ) (at next most : ℕ) → Tells (not (bearsNext s at next most)) ((byteAt s at 1 ≡ next → ⊥) ⊎ (most ≤ byteAt s at 1))
 tells-number s at next most =
@@ -68,7 +72,7 @@ tells-number s at next most =
     tells-same (not (bearsNext s at next most))
     (tells-nand (eqb b next) (ltb next most)
     (tells-not (eqb b next) (tells-eq b next))
-    (tells-same (not (ltb next most)) (tells-not (ltb next most) (tells-lt next most)) (λ n. omega (arith, n)) (λ h l. omega arith)))
+    (tells-same (not (ltb next most)) (tells-not (ltb next most) (tells-lt next most)) (λ n. not-less n (decLt next most)) (λ h l. omega arith)))
     (where-next b next (λ e h. omega arith))
     (where-next b next (λ e h. omega arith))
 

@@ -120,6 +120,19 @@ module _ (entry : ℕ → Year → Record) (start : Year) where
       let here : gathered entry start (suc k) ≡ refused f k = gathered-more k (r .1 .so-far) (r .1 .taken-before) ∙ ap (taken (r .1 .so-far) k) (r .1 .fault-here) in
       refused-stays (suc k) m f k (omega (arith, r .0)) here
 
+-- two lists whose records are the same behind each year that is met
+module _ (entry other : ℕ → Year → Record) (start : Year) where
+  pub gathered-same : (n : ℕ) → ((k : ℕ) (y : Year) → k < n → gathered entry start k ≡ done y → entry k y ≡ other k y) → gathered entry start n ≡ gathered other start n
+  unfolding gathered
+  gathered-same zero h = refl
+  gathered-same (suc n) h = go (gathered entry start n) refl (gathered entry start n .answer) refl (gathered-same n (λ k y l. h k y (omega arith)))
+    where
+      -- the next record is looked at only where all before it were taken
+      go : (r : Received) → gathered entry start n ≡ r → (a : Reading) → r .answer ≡ a → r ≡ gathered other start n
+          → onward r (r .answer) (taken (r .year) n (entry n (r .year))) ≡ onward (gathered other start n) (gathered other start n .answer) (taken (gathered other start n .year) n (other n (gathered other start n .year)))
+      go r is Done p e = rw (sym e, p, h n (r .year) (omega arith) (is ∙ is-done r p)) refl
+      go r is (Refused f k) p e = rw (sym e, p) refl
+
 -- ---- a list as a whole
 
 -- refused by its length, or what its n records give

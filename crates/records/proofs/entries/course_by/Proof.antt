@@ -21,7 +21,7 @@ cast-t14 c = search needs
 -- src/entries.rt:64:9
 returns : tie.Need-returns
 unfolding courseBy
-returns c = 
+returns c =
     let a = c .before .before .before .before .args in
     let q = one-test (a .zeros) (badWeight (a .weight .0)) (badList (a .list) (a .terms)) (c .if1 .taken) in
     simp (q .0, q .1, q .2)

@@ -34,7 +34,7 @@ blank-from-requires c κs = search needs
 -- src/entries.rt:38:9
 returns : tie.Need-returns
 unfolding termByItself
-returns c = 
+returns c =
     let w = c .before .before .before .before .before .before in
     let q = one-test (c .before .blank-from .result) (ltb 64000 (w .before .before .before .word .result) || ltb 64000 (w .before .before .word2 .result) || ltb 64 (w .before .word3 .result) || ltb 64 (w .word4 .result)) (ltb (w .before .before .word2 .result) (w .before .before .before .word .result) || ltb (w .word4 .result) (w .before .word3 .result)) (c .if1 .taken) in
     rw (← (w .before .before .before .word .ensures .0), ← (w .before .before .word2 .ensures .0), ← (w .before .word3 .ensures .0), ← (w .word4 .ensures .0)) (simp (q .0, q .1, sym (c .before .blank-from .ensures) ∙ q .2))
@@ -42,21 +42,21 @@ returns c =
 -- src/entries.rt:46:9
 returns-2 : tie.Need-returns-2
 unfolding termByItself
-returns-2 c = 
+returns-2 c =
     let w = c .before .before .before .before .before .before .before in
     rw (← (w .before .before .before .word .ensures .0), ← (w .before .before .word2 .ensures .0), ← (w .before .word3 .ensures .0), ← (w .word4 .ensures .0)) (simp (c .if2 .taken))
 
 -- src/entries.rt:49:9
 returns-3 : tie.Need-returns-3
 unfolding termByItself
-returns-3 c = 
+returns-3 c =
     let w = c .before .before .before .before .before .before .before .before in
     rw (← (w .before .before .before .word .ensures .0), ← (w .before .before .word2 .ensures .0), ← (w .before .word3 .ensures .0), ← (w .word4 .ensures .0)) (simp (c .before .if2 .left, c .if3 .taken))
 
 -- src/entries.rt:25:1
 returns-4 : tie.Need-returns-4
 unfolding termByItself
-returns-4 c = 
+returns-4 c =
     let e = c .before .before in
     let w = e .before .before .before .before .before .before in
     let z = left-zeros _ _ _ (e .if1 .left) (c .before .if2 .left) (c .if3 .left) in
