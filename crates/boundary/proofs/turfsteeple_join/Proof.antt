@@ -1,11 +1,7 @@
+-- `turfsteeple_join`: two lists that do not join, then a short buffer, then the year is written.
 use borrow.Author.Needs.{needs}
 use Rattle.boundary.proofs.turfsteeple_join.Statement.{statement}
 use Rattle.boundary.proofs.turfsteeple_join.Tie as tie
-use Rattle.boundary.proofs.turfsteeple_join.Reads as reads
-use Rattle.boundary.proofs.turfsteeple_join.Lts as lts
-use Rattle.boundary.proofs.codes.joining.Reads as joining-reads
-use Rattle.hours.proofs.join.Reads as join-reads
-use Rattle.records.proofs.write_sound.Reads as write-sound-reads
 use types.Run.{miss}
 use mathlib.Core.List.{[], _∷_}
 use mathlib.Core.Path.{_≡_}
@@ -17,45 +13,36 @@ use Rattle.boundary.proofs.CallLaws as law
 refused : (c : tie.At-match-keys2) → c .before .join .result .answer ≡ Done → ⊥
 refused c e = miss (1 ∷ 2 ∷ []) 0 tt (rw e at (c .match .keys2))
 
--- src/lib.rt:85:9
 join-requires : tie.Need-join-requires
 join-requires c κs = search needs
 
 enum-told : tie.Need-enum-told
 enum-told c = search needs
 
--- src/lib.rt:88:9
 joining-requires : tie.Need-joining-requires
 joining-requires c κs = law.join-place _ _ _ (c .before .join .ensures)
 
--- src/lib.rt:88:9
 returns : tie.Need-returns
 returns c = law.join-refused _ _ _ (c .before .before .join .ensures) _ (refused (c .before)) _ (c .joining .ensures)
 
--- src/lib.rt:90:20
 add-if1 : tie.Need-add-if1
 add-if1 c = omega (arith, law.join-year _ _ _ (c .before .before .join .ensures) (c .enum-told .given .1) .2)
 
--- src/lib.rt:91:9
 returns-2 : tie.Need-returns-2
 returns-2 c = law.join-short _ _ _ (c .before .before .before .join .ensures) _ (c .before .enum-told .given .1) (c .if1 .taken)
 
--- src/lib.rt:94:5
 write-sound-requires : tie.Need-write-sound-requires
 write-sound-requires c κs =
     let e = c .before .before in
     let q = law.join-year _ _ _ (e .before .before .before .join .ensures) (e .before .enum-told .given .1) in
     (q .0, omega (arith, q .1, e .if1 .left))
 
--- src/lib.rt:95:5
 joining-requires-2 : tie.Need-joining-requires-2
 joining-requires-2 c κs = law.join-place _ _ _ (c .before .before .before .before .before .before .before .before .join .ensures)
 
--- src/lib.rt:80:1
 same-length : tie.Need-same-length
 same-length c = search needs
 
--- src/lib.rt:80:1
 returns-3 : tie.Need-returns-3
 returns-3 c =
     let e = c .before .before .before .before .before .before in

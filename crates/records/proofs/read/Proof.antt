@@ -1,12 +1,6 @@
+-- `read`: the year held is what the definition has after the same records; a refusal stays to the end of the list.
 use Rattle.records.proofs.read.Statement.{statement}
 use Rattle.records.proofs.read.Tie as tie
-use Rattle.records.proofs.read.Reads as reads
-use Rattle.records.proofs.read.Lts as lts
-use Rattle.records.proofs.bad_length.Reads as bad-length-reads
-use Rattle.records.proofs.blank.Reads as blank-reads
-use Rattle.records.proofs.entries.read_course.Reads as read-course-reads
-use Rattle.records.proofs.entries.read_term.Reads as read-term-reads
-use Rattle.records.proofs.refused.Reads as refused-reads
 use Prim.Native.Nat.{ℕ, suc, _+_, _*_, _/_, _-_, _≤_, _<_}
 use mathlib.Core.Path.{_≡_, _∙_, ap, sym}
 use mathlib.Core.List.{List}
@@ -16,7 +10,7 @@ use native.Mathlib.Numerals.{add-one}
 use lib.ListN.{length}
 use Rattle.year.specs.declared.Year.{Year}
 use Rattle.records.specs.declared.Fault.{Fault}
-use Rattle.records.specs.Reading.{Record, Faulty, ofTerm, ofCourse, blankYear, done, refused, taken, recordIn, readTo, readList}
+use Rattle.records.specs.Reading.{Faulty, ofTerm, ofCourse, blankYear, done, refused, taken, recordIn, readTo, readList}
 use Rattle.records.proofs.EntryLaws.{term-read, course-read, at-term, at-course, at-neither}
 use Rattle.records.proofs.GatherLaws.{gathered-zero, gathered-more, refused-stays}
 use Rattle.records.proofs.ListLaws.{Front, read-front}
@@ -43,64 +37,49 @@ stops : (s : List ℕ) (k : ℕ) (y : Year) (f : Fault) → k < length s / 16 �
 stops s k y f l e r =
     refused-stays (recordIn s) blankYear (suc k) (length s / 16) f k (omega (arith, add-one k)) (gathered-more (recordIn s) blankYear k y e ∙ ap (taken y k) r)
 
--- src/lib.rt:115:8
 bad-length-requires : tie.Need-bad-length-requires Inv-loop μ-loop
 bad-length-requires c κs = search needs
 
--- src/lib.rt:116:9
 refused-requires : tie.Need-refused-requires Inv-loop μ-loop
 refused-requires c κs = search needs
 
--- src/lib.rt:116:9
 returns : tie.Need-returns Inv-loop μ-loop
 unfolding readList
 returns c = c .refused .ensures ∙ simp (sym (c .before .before .bad-length .ensures) ∙ c .before .if1 .taken)
 
--- src/lib.rt:118:17
 blank-requires : tie.Need-blank-requires Inv-loop μ-loop
 blank-requires c κs = search needs
 
--- src/lib.rt:119:5
 loop-holds : tie.Need-loop-holds Inv-loop μ-loop
 loop-holds c = (search needs, gathered-zero _ _ ∙ ap done (sym (c .blank .ensures)))
 
--- src/lib.rt:120:18
 mul-at : tie.Need-mul-at Inv-loop μ-loop
 mul-at c = search needs
 
--- src/lib.rt:121:13
 shared-slice-read-if2 : tie.Need-shared-slice-read-if2 Inv-loop μ-loop
 shared-slice-read-if2 c = search needs
 
--- src/lib.rt:122:19
 read-course-requires : tie.Need-read-course-requires Inv-loop μ-loop
 read-course-requires c κs = (omega arith, front (c .before .before .before) .begun .terms-most)
 
--- src/lib.rt:123:32
 enum-known-c : tie.Need-enum-known-c Inv-loop μ-loop
 enum-known-c c = search needs
 
--- src/lib.rt:125:21
 mul-c : tie.Need-mul-c Inv-loop μ-loop
 mul-c c = omega (arith, course-room (c .before))
 
--- src/lib.rt:125:21
 element-set-from-c : tie.Need-element-set-from-c Inv-loop μ-loop
 element-set-from-c c = course-room (c .before)
 
--- src/lib.rt:126:33
 add-y : tie.Need-add-y Inv-loop μ-loop
 add-y c = omega (arith, course-room (c .before))
 
--- src/lib.rt:128:34
 enum-known-f : tie.Need-enum-known-f Inv-loop μ-loop
 enum-known-f c = search needs
 
--- src/lib.rt:129:21
 refused-requires-2 : tie.Need-refused-requires-2 Inv-loop μ-loop
 refused-requires-2 c κs = search needs
 
--- src/lib.rt:129:21
 returns-2 : tie.Need-returns-2 Inv-loop μ-loop
 unfolding readList
 returns-2 c =
@@ -110,39 +89,30 @@ returns-2 c =
     c .refused2 .ensures
     ∙ sym (simp (sym (l .before .before .before .bad-length .ensures) ∙ l .before .before .if1 .left) (stops b (l .loop .k) (l .loop .y) _ (omega arith) (l .loop .inv .1) (at-course b (l .loop .k * 16) (l .loop .y .terms) (l .loop .y .courses) (i .if2 .taken) ∙ ap ofCourse (sym (c .before .before .before .before .read-course .ensures) ∙ c .before .before .f .given .1))))
 
--- src/lib.rt:132:20
 shared-slice-read-if3 : tie.Need-shared-slice-read-if3 Inv-loop μ-loop
 shared-slice-read-if3 c = search needs
 
--- src/lib.rt:133:19
 read-term-requires : tie.Need-read-term-requires Inv-loop μ-loop
 read-term-requires c κs = search needs
 
--- src/lib.rt:134:30
 enum-known-t : tie.Need-enum-known-t Inv-loop μ-loop
 enum-known-t c = search needs
 
--- src/lib.rt:136:21
 mul-t : tie.Need-mul-t Inv-loop μ-loop
 mul-t c = omega (arith, term-room (c .before))
 
--- src/lib.rt:136:21
 element-set-from-t : tie.Need-element-set-from-t Inv-loop μ-loop
 element-set-from-t c = term-room (c .before)
 
--- src/lib.rt:137:31
 add-y-2 : tie.Need-add-y-2 Inv-loop μ-loop
 add-y-2 c = omega (arith, term-room (c .before))
 
--- src/lib.rt:139:32
 enum-known-f-2 : tie.Need-enum-known-f-2 Inv-loop μ-loop
 enum-known-f-2 c = search needs
 
--- src/lib.rt:140:21
 refused-requires-3 : tie.Need-refused-requires-3 Inv-loop μ-loop
 refused-requires-3 c κs = search needs
 
--- src/lib.rt:140:21
 returns-3 : tie.Need-returns-3 Inv-loop μ-loop
 unfolding readList
 returns-3 c =
@@ -152,11 +122,9 @@ returns-3 c =
     c .refused3 .ensures
     ∙ sym (simp (sym (l .before .before .before .bad-length .ensures) ∙ l .before .before .if1 .left) (stops b (l .loop .k) (l .loop .y) _ (omega arith) (l .loop .inv .1) (at-term b (l .loop .k * 16) (l .loop .y .terms) (l .loop .y .courses) (i .if3 .taken) ∙ ap ofTerm (sym (c .before .before .before .before .read-term .ensures) ∙ c .before .before .f2 .given .1))))
 
--- src/lib.rt:144:13
 refused-requires-4 : tie.Need-refused-requires-4 Inv-loop μ-loop
 refused-requires-4 c κs = search needs
 
--- src/lib.rt:144:13
 returns-4 : tie.Need-returns-4 Inv-loop μ-loop
 unfolding readList
 returns-4 c =
@@ -166,15 +134,12 @@ returns-4 c =
     c .refused4 .ensures
     ∙ sym (simp (sym (l .before .before .before .bad-length .ensures) ∙ l .before .before .if1 .left) (stops b (l .loop .k) (l .loop .y) _ (omega arith) (l .loop .inv .1) (at-neither b (l .loop .k * 16) (l .loop .y .terms) (l .loop .y .courses) (i .if3 .left) (i .before .before .if2 .left))))
 
--- src/lib.rt:119:9
 add-k : tie.Need-add-k Inv-loop μ-loop
 add-k c = search needs
 
--- src/lib.rt:119:5
 loop-less : tie.Need-loop-less Inv-loop μ-loop
 loop-less c = search needs
 
--- src/lib.rt:119:5
 loop-again : tie.Need-loop-again Inv-loop μ-loop
 loop-again c =
     let l = c .before .before .before in
@@ -189,7 +154,6 @@ loop-again c =
           (c .if2 .came),
     )
 
--- src/lib.rt:111:1
 returns-5 : tie.Need-returns-5 Inv-loop μ-loop
 unfolding readList
 returns-5 c =

@@ -1,37 +1,28 @@
+-- `hours_record`: the letter, the number, then the record by itself.
 use borrow.Author.Needs.{needs}
 use Rattle.hours.proofs.entries.hours_record.Statement.{statement}
 use Rattle.hours.proofs.entries.hours_record.Tie as tie
-use Rattle.hours.proofs.entries.hours_record.Reads as reads
-use Rattle.hours.proofs.entries.hours_record.Lts as lts
-use Rattle.hours.proofs.entries.hours_by_itself.Reads as hours-by-itself-reads
-use Rattle.records.proofs.entries.bears_next.Reads as bears-next-reads
 use mathlib.Core.Path.{_∙_, sym}
 use borrow.Author.Tests.{eq-eqb, ne-eqb, not-true, not-false}
 use Rattle.hours.specs.Entries.{hoursRecord}
 
--- src/entries.rt:59:8
 shared-slice-read-if1 : tie.Need-shared-slice-read-if1
 shared-slice-read-if1 c = search needs
 
--- src/entries.rt:60:9
 returns : tie.Need-returns
 unfolding hoursRecord
 returns c = simp (ne-eqb _ _ (c .if1 .taken))
 
--- src/entries.rt:62:9
 bears-next-requires : tie.Need-bears-next-requires
 bears-next-requires c κs = search needs
 
--- src/entries.rt:63:9
 returns-2 : tie.Need-returns-2
 unfolding hoursRecord
 returns-2 c = simp (eq-eqb _ _ (c .before .before .if1 .left), sym (c .before .bears-next .ensures) ∙ not-true _ (c .if2 .taken))
 
--- src/entries.rt:65:5
 hours-by-itself-requires : tie.Need-hours-by-itself-requires
 hours-by-itself-requires c κs = search needs
 
--- src/entries.rt:54:1
 returns-3 : tie.Need-returns-3
 unfolding hoursRecord
 returns-3 c = c .hours-by-itself .ensures ∙ simp (eq-eqb _ _ (c .before .before .before .if1 .left), sym (c .before .before .bears-next .ensures) ∙ not-false _ (c .before .if2 .left))

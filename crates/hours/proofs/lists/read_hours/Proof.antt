@@ -1,11 +1,7 @@
+-- `read_hours`: the year held is what the definition has after the same records; a refusal stays to the end of the list.
 use Rattle.hours.proofs.lists.read_hours.Statement.{statement}
 use Rattle.hours.proofs.lists.read_hours.Tie as tie
-use Rattle.hours.proofs.lists.read_hours.Reads as reads
-use Rattle.hours.proofs.lists.read_hours.Lts as lts
-use Rattle.hours.proofs.entries.hours_record.Reads as hours-record-reads
-use Rattle.hours.proofs.lists.bad_hours.Reads as bad-hours-reads
-use Rattle.records.proofs.refused.Reads as refused-reads
-use Prim.Native.Nat.{suc, _+_, _/_, _-_, _≤_, _<_}
+use Prim.Native.Nat.{suc, _/_, _-_, _≤_, _<_}
 use mathlib.Core.Path.{_≡_, _∙_, ap, sym}
 use native.Mathlib.Omega.{arith}
 use native.Mathlib.Numerals.{add-one}
@@ -26,59 +22,46 @@ abbrev μ-loop : tie.MeasureT-loop
 room : (c : tie.After-c Inv-loop μ-loop) → c .before .before .before .before .loop .z .courses < 64
 room c = hours-read _ _ _ _ (c .c .given .0 .0) (sym (c .before .before .hours-record .ensures) ∙ c .c .given .1) .room
 
--- src/lists.rt:56:8
 bad-hours-requires : tie.Need-bad-hours-requires Inv-loop μ-loop
 bad-hours-requires c κs = search needs
 
--- src/lists.rt:57:9
 refused-requires : tie.Need-refused-requires Inv-loop μ-loop
 refused-requires c κs = search needs
 
--- src/lists.rt:57:9
 returns : tie.Need-returns Inv-loop μ-loop
 unfolding hoursList
 returns c = c .refused .ensures ∙ simp (sym (c .before .before .bad-hours .ensures) ∙ c .before .if1 .taken)
 
--- src/lists.rt:60:5
 loop-holds : tie.Need-loop-holds Inv-loop μ-loop
 loop-holds c = (search needs, gathered-zero _ _)
 
--- src/lists.rt:61:40
 mul-hours-record : tie.Need-mul-hours-record Inv-loop μ-loop
 mul-hours-record c = search needs
 
--- src/lists.rt:61:15
 hours-record-requires : tie.Need-hours-record-requires Inv-loop μ-loop
 hours-record-requires c κs =
     let b = c .before in
     let a = b .before .before .before .before in
     (omega arith, omega (arith, a .pre, terms-same (a .args .y) (a .args .s .now) (b .loop .k) (b .loop .z) (b .loop .inv .1) .0))
 
--- src/lists.rt:62:28
 enum-known-c : tie.Need-enum-known-c Inv-loop μ-loop
 enum-known-c c = search needs
 
--- src/lists.rt:64:17
 mul-c : tie.Need-mul-c Inv-loop μ-loop
 mul-c c = omega (arith, room (c .before))
 
--- src/lists.rt:64:17
 element-set-from-c : tie.Need-element-set-from-c Inv-loop μ-loop
 element-set-from-c c = room (c .before)
 
--- src/lists.rt:65:29
 add-z : tie.Need-add-z Inv-loop μ-loop
 add-z c = omega (arith, room (c .before))
 
--- src/lists.rt:67:30
 enum-known-f : tie.Need-enum-known-f Inv-loop μ-loop
 enum-known-f c = search needs
 
--- src/lists.rt:68:17
 refused-requires-2 : tie.Need-refused-requires-2 Inv-loop μ-loop
 refused-requires-2 c κs = search needs
 
--- src/lists.rt:68:17
 returns-2 : tie.Need-returns-2 Inv-loop μ-loop
 unfolding hoursList
 returns-2 c =
@@ -92,15 +75,12 @@ returns-2 c =
     c .refused2 .ensures
     ∙ sym (simp (sym (b .before .before .bad-hours .ensures) ∙ b .before .if1 .left) (refused-stays (hoursEntry s) (a .y) (suc k) (length s / 16) f k (omega (arith, add-one k)) more))
 
--- src/lists.rt:60:9
 add-k : tie.Need-add-k Inv-loop μ-loop
 add-k c = search needs
 
--- src/lists.rt:60:5
 loop-less : tie.Need-loop-less Inv-loop μ-loop
 loop-less c = search needs
 
--- src/lists.rt:60:5
 loop-again : tie.Need-loop-again Inv-loop μ-loop
 loop-again c =
     let b = c .before .before .before .before .before in
@@ -109,7 +89,6 @@ loop-again c =
     let k = b .loop .k in
     (search needs, ap (gathered (hoursEntry s) (a .y)) (add-one k) ∙ gathered-more (hoursEntry s) (a .y) k (b .loop .z) (b .loop .inv .1) ∙ ap (λ r. taken (b .loop .z) k (ofCourse r)) (sym (c .before .before .before .hours-record .ensures) ∙ c .before .c .given .1))
 
--- src/lists.rt:51:1
 returns-3 : tie.Need-returns-3 Inv-loop μ-loop
 unfolding hoursList
 returns-3 c =

@@ -1,12 +1,7 @@
+-- `read_terms`: the year held is what the definition has after the same records; a refusal stays to the end of the list.
 use Rattle.hours.proofs.lists.read_terms.Statement.{statement}
 use Rattle.hours.proofs.lists.read_terms.Tie as tie
-use Rattle.hours.proofs.lists.read_terms.Reads as reads
-use Rattle.hours.proofs.lists.read_terms.Lts as lts
-use Rattle.hours.proofs.entries.term_alone.Reads as term-alone-reads
-use Rattle.records.proofs.bad_length.Reads as bad-length-reads
-use Rattle.records.proofs.blank.Reads as blank-reads
-use Rattle.records.proofs.refused.Reads as refused-reads
-use Prim.Native.Nat.{suc, _+_, _/_, _-_, _≤_, _<_}
+use Prim.Native.Nat.{suc, _/_, _-_, _≤_, _<_}
 use mathlib.Core.Path.{_≡_, _∙_, ap, sym}
 use native.Mathlib.Omega.{arith}
 use native.Mathlib.Numerals.{add-one}
@@ -26,60 +21,46 @@ abbrev μ-loop : tie.MeasureT-loop
 room : (c : tie.After-t Inv-loop μ-loop) → c .before .before .before .before .loop .y .terms < 16
 room c = alone-read _ _ _ (c .t .given .0 .0) (sym (c .before .before .term-alone .ensures) ∙ c .t .given .1) .1 .room
 
--- src/lists.rt:22:8
 bad-length-requires : tie.Need-bad-length-requires Inv-loop μ-loop
 bad-length-requires c κs = search needs
 
--- src/lists.rt:23:9
 refused-requires : tie.Need-refused-requires Inv-loop μ-loop
 refused-requires c κs = search needs
 
--- src/lists.rt:23:9
 returns : tie.Need-returns Inv-loop μ-loop
 unfolding termList
 returns c = c .refused .ensures ∙ simp (sym (c .before .before .bad-length .ensures) ∙ c .before .if1 .taken)
 
--- src/lists.rt:25:17
 blank-requires : tie.Need-blank-requires Inv-loop μ-loop
 blank-requires c κs = search needs
 
--- src/lists.rt:26:5
 loop-holds : tie.Need-loop-holds Inv-loop μ-loop
 loop-holds c = (search needs, gathered-zero _ _ ∙ ap done (sym (c .blank .ensures)))
 
--- src/lists.rt:27:38
 mul-term-alone : tie.Need-mul-term-alone Inv-loop μ-loop
 mul-term-alone c = search needs
 
--- src/lists.rt:27:15
 term-alone-requires : tie.Need-term-alone-requires Inv-loop μ-loop
 term-alone-requires c κs = omega arith
 
--- src/lists.rt:28:26
 enum-known-t : tie.Need-enum-known-t Inv-loop μ-loop
 enum-known-t c = search needs
 
--- src/lists.rt:30:17
 mul-t : tie.Need-mul-t Inv-loop μ-loop
 mul-t c = omega (arith, room (c .before))
 
--- src/lists.rt:30:17
 element-set-from-t : tie.Need-element-set-from-t Inv-loop μ-loop
 element-set-from-t c = room (c .before)
 
--- src/lists.rt:31:27
 add-y : tie.Need-add-y Inv-loop μ-loop
 add-y c = omega (arith, room (c .before))
 
--- src/lists.rt:33:28
 enum-known-f : tie.Need-enum-known-f Inv-loop μ-loop
 enum-known-f c = search needs
 
--- src/lists.rt:34:17
 refused-requires-2 : tie.Need-refused-requires-2 Inv-loop μ-loop
 refused-requires-2 c κs = search needs
 
--- src/lists.rt:34:17
 returns-2 : tie.Need-returns-2 Inv-loop μ-loop
 unfolding termList
 returns-2 c =
@@ -93,15 +74,12 @@ returns-2 c =
     c .refused2 .ensures
     ∙ sym (simp (sym (b .before .before .before .bad-length .ensures) ∙ b .before .before .if1 .left) (refused-stays (termEntry s) blankYear (suc k) (length s / 16) f k (omega (arith, add-one k)) more))
 
--- src/lists.rt:26:9
 add-k : tie.Need-add-k Inv-loop μ-loop
 add-k c = search needs
 
--- src/lists.rt:26:5
 loop-less : tie.Need-loop-less Inv-loop μ-loop
 loop-less c = search needs
 
--- src/lists.rt:26:5
 loop-again : tie.Need-loop-again Inv-loop μ-loop
 loop-again c =
     let b = c .before .before .before .before .before in
@@ -110,7 +88,6 @@ loop-again c =
     let y = b .loop .y in
     (search needs, ap (gathered (termEntry s) blankYear) (add-one k) ∙ gathered-more (termEntry s) blankYear k y (b .loop .inv .1) ∙ ap (λ r. taken y k (ofTerm r)) (sym (c .before .before .before .term-alone .ensures) ∙ c .before .t .given .1))
 
--- src/lists.rt:18:1
 returns-3 : tie.Need-returns-3 Inv-loop μ-loop
 unfolding termList
 returns-3 c =

@@ -1,24 +1,18 @@
+-- `with_hours`: the answer under its list, beside the year.
 use borrow.Author.Needs.{needs}
 use Rattle.hours.proofs.lists.with_hours.Statement.{statement}
 use Rattle.hours.proofs.lists.with_hours.Tie as tie
-use Rattle.hours.proofs.lists.with_hours.Reads as reads
-use Rattle.hours.proofs.lists.with_hours.Lts as lts
-use Rattle.hours.proofs.lists.in_hours.Reads as in-hours-reads
-use Rattle.hours.proofs.lists.read_hours.Reads as read-hours-reads
 use mathlib.Core.Path.{ap, _∙_}
 use Rattle.records.specs.declared.Received.{Received}
 use Rattle.hours.specs.Joining.{inHours}
 use Rattle.hours.specs.declared.Joined.{Joined}
 
--- src/lists.rt:92:9
 read-hours-requires : tie.Need-read-hours-requires
 read-hours-requires c κs = search needs
 
--- src/lists.rt:95:9
 in-hours-requires : tie.Need-in-hours-requires
 in-hours-requires c κs = search needs
 
--- src/lists.rt:88:1
 returns : tie.Need-returns
 returns c =
     let r = c .before .before .read-hours .result in

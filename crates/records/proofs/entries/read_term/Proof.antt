@@ -1,28 +1,21 @@
+-- `read_term`: the number, then the term by itself.
 use borrow.Author.Needs.{needs}
 use Rattle.records.proofs.entries.read_term.Statement.{statement}
 use Rattle.records.proofs.entries.read_term.Tie as tie
-use Rattle.records.proofs.entries.read_term.Reads as reads
-use Rattle.records.proofs.entries.read_term.Lts as lts
-use Rattle.records.proofs.entries.bears_next.Reads as bears-next-reads
-use Rattle.records.proofs.entries.term_by_itself.Reads as term-by-itself-reads
 use mathlib.Core.Path.{_∙_, sym}
 use borrow.Author.Tests.{not-true, not-false}
 use Rattle.records.specs.Reading.{termRecord}
 
--- src/entries.rt:92:9
 bears-next-requires : tie.Need-bears-next-requires
 bears-next-requires c κs = search needs
 
--- src/entries.rt:93:9
 returns : tie.Need-returns
 unfolding termRecord
 returns c = simp (sym (c .before .bears-next .ensures) ∙ not-true _ (c .if1 .taken))
 
--- src/entries.rt:95:5
 term-by-itself-requires : tie.Need-term-by-itself-requires
 term-by-itself-requires c κs = search needs
 
--- src/entries.rt:88:1
 returns-2 : tie.Need-returns-2
 unfolding termRecord
 returns-2 c = c .term-by-itself .ensures ∙ simp (sym (c .before .before .bears-next .ensures) ∙ not-false _ (c .before .if1 .left))
