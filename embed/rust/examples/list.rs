@@ -1,15 +1,38 @@
-//! Lists a year: reads records from standard input, filters them and prints the listing; then, for a year that is
-//! open, what each term of its first open course leads to.
+//! Lists a year: reads records from standard input, or joins those of two files, terms and hours; filters them and
+//! prints the listing; then, for a year that is open, what each term of its first open course leads to.
 
 use std::io::{self, Read};
+use std::{env, fs};
 
-use turfsteeple::{filter, imbalance, narrow, Course, Filtered, Narrowing, Refusal, Term, RECORD};
+use turfsteeple::{filter, imbalance, join, narrow, Course, Filtered, JoinRefusal, Narrowing, Refusal, Term, RECORD};
 
 fn main() -> io::Result<()> {
-    let mut list = Vec::new();
-    io::stdin().read_to_end(&mut list)?;
+    let files: Vec<_> = env::args_os().skip(1).collect();
+    match &files[..] {
+        [] => {
+            let mut list = Vec::new();
+            io::stdin().read_to_end(&mut list)?;
+            list_year(&list);
+        }
+        [terms, hours] => list_joined(&fs::read(terms)?, &fs::read(hours)?),
+        _ => return Err(io::Error::new(io::ErrorKind::InvalidInput, "two files, TERMS and HOURS, or none")),
+    }
+    Ok(())
+}
+
+fn list_joined(terms: &[u8], hours: &[u8]) {
+    let mut list = vec![0; terms.len() + hours.len()];
+    match join(terms, hours, &mut list) {
+        Ok(()) => list_year(&list),
+        Err(JoinRefusal::Terms { number, place }) => println!("REFUSED {number} {place} in the terms' list"),
+        Err(JoinRefusal::Hours { number, place }) => println!("REFUSED {number} {place} in the hours list"),
+        Err(JoinRefusal::Buffer) => unreachable!("the buffer is as long as both lists"),
+    }
+}
+
+fn list_year(list: &[u8]) {
     let mut filtered = vec![0; list.len()];
-    let answer = filter(&list, &mut filtered);
+    let answer = filter(list, &mut filtered);
     println!("{}", in_words(answer));
     match answer {
         Ok(Filtered::Settled { .. }) => {
@@ -22,7 +45,6 @@ fn main() -> io::Result<()> {
         }
         _ => {}
     }
-    Ok(())
 }
 
 /// The answer of a filtering in one line.

@@ -1,7 +1,7 @@
 //! Turfsteeple for Rust: a year of terms and courses is a list of 16-byte records; it is read, filtered or narrowed
-//! into a buffer that the caller lends, or measured. The work is done by a library that is proved to do what its
-//! definitions say for every input; this crate declares its functions and takes their answers apart. It allocates
-//! nothing and depends on nothing.
+//! into a buffer that the caller lends, or measured, and a list of terms and the registrar's hours list are joined into
+//! one. The work is done by a library that is proved to do what its definitions say for every input; this crate
+//! declares its functions and takes their answers apart. It allocates nothing and depends on nothing.
 //!
 //! ```
 //! use turfsteeple::{filter, Course, Filtered, Term};
@@ -28,7 +28,10 @@ pub const RECORD: usize = 16;
 /// The bytes of the longest list: 16 terms and 64 courses.
 pub const LONGEST: usize = 1280;
 
-/// Why a call was refused. What was lent is then as it was.
+/// The bytes of the longest hours list: 64 courses.
+pub const LONGEST_HOURS: usize = 1024;
+
+/// Why a call on a year's list was refused. What was lent is then as it was.
 #[derive(Clone, Copy, Debug, PartialEq, Eq)]
 pub enum Refusal {
     /// 1 to 7: what is wrong with the list, and the place of the record, from 0. 1 its length; 2 a record's letter; 3
@@ -44,6 +47,19 @@ pub enum Refusal {
     Crossing,
     /// 14: no imbalance, because a course has several terms or the one placing is no plan.
     Unsettled,
+}
+
+/// Why a joining was refused. The whole list of terms is judged first, then the hours list, then the buffer, which is then
+/// as it was.
+#[derive(Clone, Copy, Debug, PartialEq, Eq)]
+pub enum JoinRefusal {
+    /// What is wrong with the list of terms, as in `Refusal::List`. A record that is no term's is 2, a course's too.
+    Terms { number: u8, place: usize },
+    /// What is wrong with the hours list, by the same numbers. An edition that there is not is 4, as is a weight
+    /// outside 1 to 1,000; there is no 5.
+    Hours { number: u8, place: usize },
+    /// 9: the buffer is shorter than both lists together.
+    Buffer,
 }
 
 /// How a filtering ended.
@@ -104,6 +120,30 @@ pub fn imbalance(list: &[u8]) -> Result<u64, Refusal> {
     accepted(packed::imbalance(list))
 }
 
+/// Joins a list of terms and an hours list, which may be empty, to a year and writes its records, terms and then courses,
+/// into the front of `out`: as many bytes as both lists have.
+///
+/// ```
+/// use turfsteeple::{join, Course, Edition, Hours, Term};
+///
+/// let terms = Term { low_credits: 0, high_credits: 6, low_count: 0, high_count: 3 }.record(0);
+/// let hours = Hours { edition: Edition::Second, lecture: 1, laboratory: 3, terms: 0b1 }.record(0);
+/// let mut year = [0; 32];
+/// assert_eq!(join(&terms, &hours, &mut year), Ok(()));
+/// assert_eq!(year[..16], terms);
+/// assert_eq!(Course::of(&year[16..]), Some(Course { weight: 3, terms: 0b1 }));
+/// ```
+pub fn join(terms: &[u8], hours: &[u8], out: &mut [u8]) -> Result<(), JoinRefusal> {
+    let answer = packed::join(terms, hours, out);
+    let (number, place) = (packed::number(answer), packed::value(answer) as usize);
+    match (number, packed::detail(answer)) {
+        (0, _) => Ok(()),
+        (9, _) => Err(JoinRefusal::Buffer),
+        (_, 1) => Err(JoinRefusal::Terms { number, place }),
+        _ => Err(JoinRefusal::Hours { number, place }),
+    }
+}
+
 /// The value of an answer, or its refusal.
 fn accepted(answer: u64) -> Result<u64, Refusal> {
     match packed::number(answer) {
@@ -135,6 +175,25 @@ pub struct Course {
     pub terms: u16,
 }
 
+/// An edition of the handbook: how it rounds half the laboratory hours.
+#[derive(Clone, Copy, Debug, PartialEq, Eq)]
+pub enum Edition {
+    /// Down.
+    First,
+    /// Up.
+    Second,
+}
+
+/// A course as the registrar sends it: its hours, the edition that makes its weight of them, and the terms it may stand
+/// in, bit j for term j.
+#[derive(Clone, Copy, Debug, PartialEq, Eq)]
+pub struct Hours {
+    pub edition: Edition,
+    pub lecture: u16,
+    pub laboratory: u16,
+    pub terms: u16,
+}
+
 impl Term {
     /// The record of this term under a number.
     pub fn record(&self, number: u8) -> [u8; RECORD] {
@@ -163,6 +222,29 @@ impl Course {
     pub fn of(record: &[u8]) -> Option<Course> {
         let is_course = record.len() == RECORD && record[0] == b'C';
         is_course.then(|| Course { weight: two_bytes(record, 2), terms: two_bytes(record, 4) })
+    }
+}
+
+impl Hours {
+    /// The record of this course under a number.
+    pub fn record(&self, number: u8) -> [u8; RECORD] {
+        let edition = match self.edition {
+            Edition::First => 1,
+            Edition::Second => 2,
+        };
+        // A zero byte stands behind the edition.
+        record(b'H', number, &[u16::from_be_bytes([edition, 0]), self.lecture, self.laboratory, self.terms])
+    }
+
+    /// The weight in credits: lecture hours plus half the laboratory hours. At most 98,303, which 16 bits do not hold;
+    /// the library takes 1 to 1,000.
+    pub fn weight(&self) -> u32 {
+        let laboratory = u32::from(self.laboratory);
+        let half = match self.edition {
+            Edition::First => laboratory / 2,
+            Edition::Second => laboratory / 2 + laboratory % 2,
+        };
+        u32::from(self.lecture) + half
     }
 }
 

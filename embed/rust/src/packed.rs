@@ -13,10 +13,18 @@ extern "C" {
         out_length: usize,
     ) -> u64;
     fn turfsteeple_imbalance(list: *const u8, list_length: usize) -> u64;
+    fn turfsteeple_join(
+        terms: *const u8,
+        terms_length: usize,
+        hours: *const u8,
+        hours_length: usize,
+        out: *mut u8,
+        out_length: usize,
+    ) -> u64;
 }
 
-// Safety, of all four: each function answers every list and every number, reads no byte outside the list and writes
-// none outside the buffer. A slice's pointer is never null, and a shared and a mutable slice never overlap.
+// Safety, of all five: each function answers every list and every number, reads no byte outside its lists and writes
+// none outside the buffer. A slice's pointer is never null, and a mutable slice overlaps no other.
 
 /// Reads a list. Value: the place of the refused record.
 pub fn read(list: &[u8]) -> u64 {
@@ -36,6 +44,12 @@ pub fn narrow(list: &[u8], kind: u32, a: u32, b: u32, out: &mut [u8]) -> u64 {
 /// Measures the imbalance. Value: the imbalance, or a place.
 pub fn imbalance(list: &[u8]) -> u64 {
     unsafe { turfsteeple_imbalance(list.as_ptr(), list.len()) }
+}
+
+/// Joins a list of terms and an hours list into `out`. Detail: 1 the terms' list is refused, 2 the hours list. Value: a
+/// place in that list.
+pub fn join(terms: &[u8], hours: &[u8], out: &mut [u8]) -> u64 {
+    unsafe { turfsteeple_join(terms.as_ptr(), terms.len(), hours.as_ptr(), hours.len(), out.as_mut_ptr(), out.len()) }
 }
 
 /// The number of an answer.

@@ -113,3 +113,183 @@ fn narrowings_and_imbalance() {
     narrow(&list, Narrowing::Bar { course: 2, term: 1 }, &mut placed).unwrap();
     assert_eq!(Course::of(&placed[64..]), Some(Course { weight: 2, terms: 1 }));
 }
+
+// ---- Joining ----
+
+/// Hours in year E's two terms.
+fn hours(edition: Edition, lecture: u16, laboratory: u16) -> Hours {
+    Hours { edition, lecture, laboratory, terms: 3 }
+}
+
+fn hours_list(courses: &[Hours]) -> Vec<u8> {
+    courses.iter().enumerate().flat_map(|(number, course)| course.record(number as u8)).collect()
+}
+
+/// The lists that give year E: its terms, and hours of either edition, odd ones under both.
+fn lists_of_e() -> (Vec<u8>, Vec<u8>) {
+    let courses = [hours(Edition::First, 2, 5), hours(Edition::Second, 1, 3), hours(Edition::First, 0, 4)];
+    (year_e()[..32].to_vec(), hours_list(&courses))
+}
+
+/// A list with one byte replaced.
+fn with(list: &[u8], at: usize, byte: u8) -> Vec<u8> {
+    let mut list = list.to_vec();
+    list[at] = byte;
+    list
+}
+
+/// The refusal of a joining. It comes before that of a short buffer, and leaves any buffer as it was.
+fn refused(terms: &[u8], hours: &[u8]) -> JoinRefusal {
+    let mut out = [7; LONGEST];
+    let refusal = join(terms, hours, &mut out).expect_err("the lists are spoilt");
+    for length in [0, 1, 79] {
+        assert_eq!(join(terms, hours, &mut out[..length]), Err(refusal));
+    }
+    assert_eq!(out, [7; LONGEST]);
+    refusal
+}
+
+#[test]
+fn joining() {
+    let (terms, hours) = lists_of_e();
+    let mut out = [7; 81];
+    assert_eq!(join(&terms, &hours, &mut out), Ok(()));
+    assert_eq!(out[..80], year_e());
+    assert_eq!(out[80], 7);
+    let mut short = [7; 80];
+    assert_eq!(join(&terms, &hours, &mut short[..79]), Err(JoinRefusal::Buffer));
+    assert_eq!(short, [7; 80]);
+}
+
+#[test]
+fn sample_lists() {
+    let (terms, hours) = lists_of_e();
+    assert_eq!(terms, include_bytes!("../../../data/e.terms"));
+    assert_eq!(hours, include_bytes!("../../../data/e.hours"));
+}
+
+#[test]
+fn joining_no_hours() {
+    let (terms, _) = lists_of_e();
+    let mut out = [7; 33];
+    assert_eq!(join(&terms, &[], &mut out[..31]), Err(JoinRefusal::Buffer));
+    assert_eq!(out, [7; 33]);
+    assert_eq!(join(&terms, &[], &mut out), Ok(()));
+    assert_eq!(out[..32], terms);
+    assert_eq!(out[32], 7);
+}
+
+#[test]
+fn joining_the_longest_lists() {
+    let terms: Vec<u8> = (0..17).flat_map(|number| TERM.record(number)).collect();
+    let hours = hours_list(&[hours(Edition::Second, 999, 1); 65]);
+    let (most_terms, most_hours) = (&terms[..16 * RECORD], &hours[..LONGEST_HOURS]);
+    let mut out = [7; LONGEST];
+    assert_eq!(join(most_terms, most_hours, &mut out[1..]), Err(JoinRefusal::Buffer));
+    assert_eq!(out, [7; LONGEST]);
+    assert_eq!(join(most_terms, most_hours, &mut out), Ok(()));
+    assert_eq!(out[..16 * RECORD], *most_terms);
+    assert_eq!(out[LONGEST - RECORD..], Course { weight: 1_000, terms: 3 }.record(63));
+    assert_eq!(refused(&terms, most_hours), JoinRefusal::Terms { number: 3, place: 16 });
+    assert_eq!(refused(most_terms, &hours), JoinRefusal::Hours { number: 1, place: 0 });
+}
+
+#[test]
+fn refusals_in_the_terms() {
+    let (terms, hours) = lists_of_e();
+    let over: Vec<u8> = (0..81).flat_map(|number| TERM.record(number)).collect();
+    for (spoilt, number, place) in [
+        (vec![], 1, 0),
+        (terms[..31].to_vec(), 1, 0),
+        (over.clone(), 1, 0),
+        (over[..LONGEST].to_vec(), 3, 16),
+        (year_e(), 2, 2),
+        (hours.clone(), 2, 0),
+        (with(&terms, 16, b't'), 2, 1),
+        (with(&terms, 17, 2), 3, 1),
+        (with(&terms, 20, 251), 4, 1),
+        (with(&terms, 19, 7), 5, 1),
+        (with(&terms, 31, 1), 7, 1),
+    ] {
+        let refusal = JoinRefusal::Terms { number, place };
+        assert_eq!(refused(&spoilt, &hours), refusal, "{spoilt:?}");
+        assert_eq!(refused(&spoilt, &hours[..47]), refusal, "before the hours list's: {spoilt:?}");
+    }
+}
+
+#[test]
+fn refusals_in_the_hours() {
+    let (terms, hours) = lists_of_e();
+    for (spoilt, number, place) in [
+        (hours[..47].to_vec(), 1, 0),
+        (terms.clone(), 2, 0),
+        (with(&hours, 32, b'C'), 2, 2),
+        (with(&hours, 33, 3), 3, 2),
+        (with(&hours, 18, 0), 4, 1),
+        (with(&hours, 18, 3), 4, 1),
+        (with(&hours, 41, 0), 6, 2),
+        (with(&hours, 41, 4), 6, 2),
+        (with(&hours, 40, 1), 6, 2),
+        (with(&hours, 19, 1), 7, 1),
+        (with(&hours, 26, 1), 7, 1),
+        (with(&hours, 47, 1), 7, 2),
+        (with(&with(&hours, 15, 1), 16, b'C'), 7, 0),
+    ] {
+        assert_eq!(refused(&terms, &spoilt), JoinRefusal::Hours { number, place }, "{spoilt:?}");
+    }
+}
+
+/// A record with every fault, mended one by one: the number of the first that is left.
+#[test]
+fn order_in_an_hours_record() {
+    let (terms, hours) = lists_of_e();
+    let mut spoilt = hours.clone();
+    spoilt[16..32].copy_from_slice(&[b'C', 2, 3, 1, 0, 0, 0, 0, 0, 0, 1, 0, 0, 0, 0, 0]);
+    for (number, mended) in [(2, 0..1), (3, 1..2), (4, 2..3), (4, 4..8), (6, 8..10), (7, 3..4), (7, 10..16)] {
+        assert_eq!(refused(&terms, &spoilt), JoinRefusal::Hours { number, place: 1 }, "{mended:?} is spoilt");
+        let bytes = 16 + mended.start..16 + mended.end;
+        spoilt[bytes.clone()].copy_from_slice(&hours[bytes]);
+    }
+    assert_eq!(spoilt, hours);
+}
+
+/// What the library makes of the hours is their weight, or refused where that is outside the sizes.
+fn weigh(course: Hours) {
+    let (terms, _) = lists_of_e();
+    let mut out = [0; 48];
+    let answer = join(&terms, &course.record(0), &mut out);
+    if (1..=1_000).contains(&course.weight()) {
+        assert_eq!(answer, Ok(()), "{course:?}");
+        assert_eq!(Course::of(&out[32..]), Some(Course { weight: course.weight() as u16, terms: 3 }), "{course:?}");
+    } else {
+        assert_eq!(answer, Err(JoinRefusal::Hours { number: 4, place: 0 }), "{course:?}");
+    }
+}
+
+#[test]
+fn weights() {
+    for (lecture, laboratory, first, second) in [
+        (0, 0, 0, 0),
+        (0, 1, 0, 1),
+        (1, 0, 1, 1),
+        (0, 1_999, 999, 1_000),
+        (1_000, 0, 1_000, 1_000),
+        (1_000, 1, 1_000, 1_001),
+        (0, 65_535, 32_767, 32_768),
+        // more than 16 bits hold, and 1 in the lowest 16 of the first
+        (32_770, 65_535, 65_537, 65_538),
+        (65_535, 65_535, 98_302, 98_303),
+    ] {
+        for (edition, weight) in [(Edition::First, first), (Edition::Second, second)] {
+            let course = hours(edition, lecture, laboratory);
+            assert_eq!(course.weight(), weight, "{course:?}");
+            weigh(course);
+        }
+    }
+    for lecture in [0, 1, 2, 500, 999, 1_000, 1_001] {
+        for laboratory in 0..2_005 {
+            weigh(hours(Edition::First, lecture, laboratory));
+            weigh(hours(Edition::Second, lecture, laboratory));
+        }
+    }
+}
