@@ -1,15 +1,14 @@
 -- The year so far in either list: the terms of the one, then the courses of the other; and the joined year.
-use Prim.Native.Nat.{ℕ, suc, _+_, _*_, _/_, _%_, _≤_, _<_}
-use mathlib.Core.Bool.{Bool, true, false, not, _||_}
+use Prim.Native.Nat.{ℕ, suc, _*_, _/_, _%_, _≤_, _<_}
+use mathlib.Core.Bool.{false, not}
 use mathlib.Core.List.{List}
 use mathlib.Core.Logic.{⊎-elim}
-use mathlib.Core.Path.{_≡_, refl, sym, ap, subst, _∙_}
+use mathlib.Core.Path.{_≡_, refl, sym, ap, _∙_}
 use native.Mathlib.Omega.{arith}
 use native.Mathlib.Decide.{ℕ-discrete}
 use lib.Dec.{eqb, ltb}
 use lib.ListN.{length}
 use borrow.Author.Tests.{ltb-false, eqb-true, not-false}
-use Rattle.theory.specs.Choice.{choose}
 use Rattle.theory.proofs.TestLaws.{or-false}
 use Rattle.year.specs.Year.{termAt, courseAt, emptyYear}
 use Rattle.year.specs.Sound.{Sound}
@@ -21,12 +20,11 @@ use Rattle.records.specs.declared.Fault.{Fault}
 use Rattle.records.specs.declared.Reading.{Reading}
 use Rattle.records.specs.declared.Reading.the-variants as reading
 use Rattle.records.specs.declared.Received.{Received}
-use Rattle.records.specs.Reading.{OfTerm, OfCourse, blankYear, addTerm, addCourse, done, refused, gathered, badLength}
+use Rattle.records.specs.Reading.{OfTerm, OfCourse, blankYear, addTerm, addCourse, done, gathered, badLength}
 use Rattle.records.proofs.EntryLaws.{TermHeld, TermRead, of-term, of-course, term-no-course, course-no-term}
 use Rattle.records.proofs.GatherLaws.{gathered-keeps, listed-done, listed-refused, Begun, begun-blank, begun-term, begun-course, begun-sound, term-added, term-before, course-added, course-before}
 use Rattle.records.proofs.ListLaws.{length-good}
-use Rattle.hours.specs.declared.Joining.{Joining}
-use Rattle.hours.specs.declared.Joining.the-variants.{Done, InTerms, InHours}
+use Rattle.hours.specs.declared.Joining.the-variants.{Done, InTerms}
 use Rattle.hours.specs.declared.Joined.{Joined}
 use Rattle.hours.specs.Numbers.{joiningPlace}
 use Rattle.hours.specs.Entries.{hoursRecord, termAlone}

@@ -1,16 +1,16 @@
 -- A list of terms beside reading: where no record is a course's, the two answer alike; so joining it with an empty list answers as reading.
 use Prim.Native.Nat.{ℕ, _*_, _/_, _<_}
-use mathlib.Core.Bool.{Bool, true, false, _&&_}
+use mathlib.Core.Bool.{Bool, true, false}
 use mathlib.Core.List.{List, []}
 use mathlib.Core.Path.{_≡_, refl, sym, ap, _∙_}
 use native.Mathlib.Omega.{arith}
-use lib.Dec.{eqb, leb}
+use lib.Dec.{eqb}
 use lib.ListN.{length}
-use borrow.Author.Tests.{eqb-true, eqb-false, eq-eqb, ne-eqb}
+use borrow.Author.Tests.{ne-eqb}
 use Rattle.theory.specs.Choice.{choose}
 use Rattle.year.specs.declared.Year.{Year}
 use Rattle.records.specs.Bytes.{letterAt}
-use Rattle.records.specs.Reading.{Record, ofTerm, termRecord, blankYear, done, refused, gathered, recordIn, badLength, readList}
+use Rattle.records.specs.Reading.{ofTerm, termRecord, blankYear, done, refused, gathered, recordIn, badLength, readList}
 use Rattle.records.specs.declared.Fault.the-variants as fault
 use Rattle.records.specs.declared.AsTerm.the-variants as asTerm
 use Rattle.records.specs.declared.Reading.{Reading}
@@ -20,7 +20,6 @@ use Rattle.records.proofs.EntryLaws.{at-term, at-neither}
 use Rattle.records.proofs.GatherLaws.{is-done, gathered-same}
 use Rattle.hours.specs.declared.Joining.{Joining}
 use Rattle.hours.specs.declared.Joining.the-variants.{Done, InTerms}
-use Rattle.hours.specs.declared.Joined.{Joined}
 use Rattle.hours.specs.Entries.{termAlone}
 use Rattle.hours.specs.Joining.{termEntry, termList, hoursList, behindTerms, joinOf}
 use Rattle.hours.proofs.JoinLaws.{terms-so-far, terms-done}

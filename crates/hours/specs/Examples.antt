@@ -3,14 +3,13 @@
 use Prim.Native.Nat.{ℕ, _/_, _%_}
 use mathlib.Core.List.{List, [], _∷_, _++_}
 use mathlib.Core.Path.{_≡_, refl}
-use lib.ListN.{length, take, drop, replicate, set}
+use lib.ListN.{take, replicate, set}
 use Rattle.year.specs.Year.{emptyYear, weight}
 use Rattle.year.specs.Examples.{yearE}
 use Rattle.records.specs.Writing.{joined}
 use Rattle.records.specs.Examples.{padded, firstTerm, plainTerm, plainCourse, bytesE}
 use Rattle.hours.specs.declared.Edition.the-variants.{First, Second}
 use Rattle.hours.specs.declared.Joining.the-variants.{Done}
-use Rattle.hours.specs.declared.Joined.{Joined}
 use Rattle.hours.specs.Numbers.{joiningNumber, joiningList, joiningPlace}
 use Rattle.hours.specs.Entries.{weightBy}
 use Rattle.hours.specs.Joining.{joinOf}

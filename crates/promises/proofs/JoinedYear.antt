@@ -1,18 +1,17 @@
 -- The joined year: its terms and its courses, its records; a list of terms alone beside reading; the editions' weights.
-use Prim.Native.Nat.{ℕ, _+_, _*_, _/_, _%_, _<_}
+use Prim.Native.Nat.{ℕ, _+_, _*_}
 use mathlib.Core.List.{List, [], _++_, append-nil}
-use mathlib.Core.Logic.{_↔_}
 use mathlib.Core.Path.{_≡_, refl, sym, ap, ap₂, _∙_}
 use native.Mathlib.Omega.{arith}
 use lib.ListN.{length, take, getD}
 use lib.Seq.{take-append-seam}
-use Rattle.year.specs.Year.{emptyYear, courseOf, courseAt, termAt, zeroTerm}
+use Rattle.year.specs.Year.{emptyYear, courseOf, courseAt, zeroTerm}
 use Rattle.year.specs.Sound.{Sound}
 use Rattle.year.specs.declared.Course.{Course}
 use Rattle.year.specs.declared.Year.{Year}
 use Rattle.records.specs.Bytes.{AllBytes, wordAt}
 use Rattle.records.specs.Numbers.{readingNumber, readingPlace}
-use Rattle.records.specs.Reading.{readList, done}
+use Rattle.records.specs.Reading.{readList}
 use Rattle.records.specs.Writing.{termBytes, termBlock, courseBlock, joined, recordsOf}
 use Rattle.records.specs.declared.Reading.{Reading}
 use Rattle.records.specs.declared.Reading.the-variants as reading
@@ -30,7 +29,7 @@ use Rattle.hours.specs.declared.Joining.the-variants.{Done, InTerms, InHours}
 use Rattle.hours.proofs.EntryLaws.{HoursHeld}
 use Rattle.hours.proofs.JoinLaws.{Joint, joint, unjoined, terms-done}
 use Rattle.hours.proofs.ReadLaws.{terms-as-read, terms-read, inTerms, joined-with-none}
-use Rattle.promises.specs.Refusals.{C, byteOf}
+use Rattle.promises.specs.Refusals.{byteOf}
 use Rattle.promises.specs.Joining.{JoinedYear, NoCourse, AsReading, HoursMean}
 use Rattle.promises.proofs.Refusals.{letter-of}
 use Rattle.promises.proofs.RoundTrip.{fault-has-number}

@@ -3,7 +3,7 @@ use Prim.Native.Nat.{ℕ, suc, _*_, _/_, _%_, _^_, _≤_, _<_}
 use mathlib.Core.Bool.{Bool, true, false, not, _&&_}
 use mathlib.Core.List.{List}
 use mathlib.Core.Logic.{_⊎_, inl, inr, ⊎-elim, _↔_}
-use mathlib.Core.Path.{_≡_, refl, sym, ap, subst, _∙_}
+use mathlib.Core.Path.{_≡_, refl, sym, subst, _∙_}
 use native.Mathlib.Omega.{arith}
 use lib.Dec.{eqb, ltb}
 use lib.ListN.{length}
@@ -32,8 +32,8 @@ use Rattle.hours.specs.declared.Edition.the-variants.{First, Second}
 use Rattle.hours.specs.declared.Joined.{Joined}
 use Rattle.hours.proofs.EntryLaws.{alone-read}
 use Rattle.hours.proofs.JoinLaws as law
-use Rattle.promises.specs.Refusals.{T, C, byteOf, wordOf, before, BadLength, Wrong, FirstWrong}
-use Rattle.promises.specs.Joining.{H, list, number, place, Answers, WrongTerm, no-term, as-in-reading, BadHours, too-long, no-multiple, WrongHours, no-hours, not-next, past-courses, no-edition, weightless, too-heavy, list-empty, term-lacking, third-not-zero, not-zero, TermsRight, JoiningDue}
+use Rattle.promises.specs.Refusals.{T, C, byteOf, wordOf, before, BadLength, Wrong}
+use Rattle.promises.specs.Joining.{list, number, place, Answers, WrongTerm, no-term, as-in-reading, BadHours, too-long, no-multiple, WrongHours, no-hours, not-next, past-courses, no-edition, weightless, too-heavy, list-empty, term-lacking, third-not-zero, not-zero, TermsRight, JoiningDue}
 use Rattle.promises.proofs.Tells.{Tells, tells-eq, tells-lt, tells-not, tells-or, tells-nand, tells-same, tells-number, tells-blank, tells-weight, tells-list}
 use Rattle.promises.proofs.Judging.{Found, bad-length, first-wrong, all-right, found-once, found-length, found-right, found-most, found-wrong, NoneBelow, Judged, one-more, none-start, none-left, row, row-passed, found-by}
 use Rattle.promises.proofs.RefusalRows.{tells-length, wrong-number}

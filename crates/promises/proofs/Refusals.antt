@@ -1,6 +1,6 @@
 -- Which byte strings are refused by which number: a record by the first row of the table that is wrong with it, a list by its first such record.
-use Prim.Native.Nat.{ℕ, suc, _+_, _*_, _/_, _≤_, _<_}
-use mathlib.Core.Bool.{Bool, true, false, not, _&&_}
+use Prim.Native.Nat.{ℕ, suc, _+_, _*_, _/_, _≤_}
+use mathlib.Core.Bool.{Bool, false, _&&_}
 use mathlib.Core.List.{List}
 use mathlib.Core.Path.{_≡_, refl, sym, ap, subst, _∙_}
 use native.Mathlib.Nat.{add-zero}
@@ -24,7 +24,7 @@ use Rattle.records.proofs.EntryLaws.{record-term, record-course}
 use Rattle.records.proofs.ListLaws.{Front, front-start, front-term, front-course, read-sound}
 use Rattle.records.proofs.ReadWrite.{read-write}
 use Rattle.records.proofs.WriteRead.{write-read}
-use Rattle.promises.specs.Refusals.{T, C, byteOf, wordOf, before, BadLength, Wrong, neither-letter, course-first, term-behind-course, FirstWrongOf, number, place, ReadingDue}
+use Rattle.promises.specs.Refusals.{T, C, byteOf, wordOf, before, BadLength, Wrong, neither-letter, course-first, term-behind-course, number, place, ReadingDue}
 use Rattle.promises.proofs.Tells.{Tells, tells-eq, tells-le, tells-and}
 use Rattle.promises.proofs.Judging.{Found, bad-length, first-wrong, all-right, found-once, found-length, found-right, found-most, found-wrong, Judged, one-more, none-start, none-left, row, row-passed, found-by}
 use Rattle.promises.proofs.RefusalRows.{tells-length, term-letter, term-number, term-size, term-order, term-list, term-padding, course-letter, course-number, course-size, course-order, course-list, course-padding, wrong-number}

@@ -1,6 +1,6 @@
 -- A list of terms and courses read record by record: the year of its first k records, and the list as a whole.
 use Prim.Native.Nat.{ℕ, suc, _+_, _*_, _/_, _%_, _≤_, _<_}
-use mathlib.Core.Bool.{Bool, true, false, not, _||_}
+use mathlib.Core.Bool.{true, false, not, _||_}
 use mathlib.Core.List.{List}
 use mathlib.Core.Logic.{_⊎_, inl, inr}
 use mathlib.Core.Path.{_≡_, refl, sym, ap, _∙_}
@@ -8,18 +8,15 @@ use native.Mathlib.Omega.{arith}
 use lib.Dec.{eqb, ltb}
 use lib.ListN.{length}
 use borrow.Author.Tests.{ltb-false, eqb-true, eqb-false, not-false}
-use Rattle.theory.specs.Choice.{choose}
 use Rattle.theory.proofs.TestLaws.{or-false}
-use Rattle.year.specs.Year.{emptyYear}
 use Rattle.year.specs.Sound.{Sound}
 use Rattle.year.specs.declared.Term.{Term}
 use Rattle.year.specs.declared.Course.{Course}
 use Rattle.year.specs.declared.Year.{Year}
 use Rattle.records.specs.declared.Fault.{Fault}
 use Rattle.records.specs.declared.Fault.the-variants as fault
-use Rattle.records.specs.declared.Reading.the-variants.{Done, Refused}
+use Rattle.records.specs.declared.Reading.the-variants.{Refused}
 use Rattle.records.specs.declared.Received.{Received}
-use Rattle.records.specs.Numbers.{readingPlace}
 use Rattle.records.specs.Reading.{OfTerm, OfCourse, blankYear, addTerm, addCourse, done, refused, recordIn, readTo, badLength, readList}
 use Rattle.records.proofs.EntryLaws.{record-term, record-course}
 use Rattle.records.proofs.GatherLaws.{gathered-keeps, FirstFault, listed-done, listed-refused, Begun, begun-blank, begun-term, begun-course, begun-sound}
