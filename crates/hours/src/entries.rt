@@ -1,5 +1,6 @@
 // One record of either list: its faults in the paper's order, or the term or the course that it holds.
 use crate::Edition;
+use crate::Hours;
 use crate::LETTER;
 use records::AsCourse;
 use records::AsTerm;
@@ -14,13 +15,13 @@ ghost use lib.ListN.{length};
 ghost use Rattle.hours.specs.Entries.{weightBy, weighed, hoursByItself, hoursRecord, termAlone};
 
 // The credits of a course by its hours: half the laboratory hours count, rounded down or up by the edition.
-fn weight(edition: Edition, lecture: u32, laboratory: u32) -> Credits
-    requires { ⌜ (lecture < 65536) × (laboratory < 65536) ⌝ }
-    ensures { λ r. ⌜ r .0 ≡ weightBy edition lecture laboratory ⌝ }
+fn weight(edition: Edition, lecture: Hours, laboratory: Hours) -> Credits
+    requires { ⌜ (lecture .0 < 65536) × (laboratory .0 < 65536) ⌝ }
+    ensures { λ r. ⌜ r .0 ≡ weightBy edition (lecture .0) (laboratory .0) ⌝ }
 {
     match edition {
-        Edition::First => Credits(lecture + laboratory / 2),
-        Edition::Second => Credits(lecture + (laboratory + 1) / 2),
+        Edition::First => Credits(lecture.0 + laboratory.0 / 2),
+        Edition::Second => Credits(lecture.0 + (laboratory.0 + 1) / 2),
     }
 }
 
@@ -30,7 +31,9 @@ fn weighed_by(edition: Edition, s: &[u8], at: usize, terms: usize) -> AsCourse
     requires { ⌜ terms ≤ 16 ⌝ }
     ensures { λ r. ⌜ r ≡ weighed edition (now (s .entry)) at terms ⌝ }
 {
-    let w = weight(edition, bytes::word(s, at, 4), bytes::word(s, at, 6));
+    let lecture = Hours(bytes::word(s, at, 4));
+    let laboratory = Hours(bytes::word(s, at, 6));
+    let w = weight(edition, lecture, laboratory);
     let list = bytes::word(s, at, 8);
     let zeros = (s[at + 3] == 0) & bytes::blank_from(s, at, 10);
     records::entries::course_by(w, list, zeros, terms)

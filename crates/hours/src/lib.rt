@@ -14,6 +14,9 @@ pub enum Edition {
     Second,
 }
 
+// A number of hours, as the registrar sends them. No number of credits before it is weighed.
+pub struct Hours(pub u32);
+
 // How a joining ended: done, or refused by the first fault of the terms' list or of the hours list, with its record's place there.
 pub enum Joining {
     Done,

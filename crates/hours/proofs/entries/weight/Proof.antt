@@ -22,10 +22,14 @@ add-t9 : tie.Need-add-t9
 add-t9 c = search needs
 
 returns : tie.Need-returns
-returns c = sym (ap (λ (e : Edition). weightBy e (c .before .before .args .lecture) (c .before .before .args .laboratory)) (c .enum-told .given .1))
+returns c =
+    let a = c .before .before .before .before .args in
+    sym (ap (λ (e : Edition). weightBy e (a .lecture .0) (a .laboratory .0)) (c .before .before .enum-told .given .1))
 
 returns-2 : tie.Need-returns-2
-returns-2 c = sym (ap (λ (e : Edition). weightBy e (c .before .before .args .lecture) (c .before .before .args .laboratory)) (c .enum-told2 .given .1))
+returns-2 c =
+    let a = c .before .before .before .before .args in
+    sym (ap (λ (e : Edition). weightBy e (a .lecture .0) (a .laboratory .0)) (c .before .before .enum-told2 .given .1))
 
 pub weight-spec : {M : Type 1} → statement M
 weight-spec = tie.close (tie.spec enum-told add-t6 enum-told-2 add-t7 add-t9 returns returns-2)
