@@ -45,10 +45,14 @@ module _ (entry : ℕ → Year → Record) (start : Year) where
   refused-on k zero f n e = rw add-zero e
   refused-on k (suc m) f n e = rw (add-suc, refused-on k m f n e) refl
 
-  pub refused-stays : (k m : ℕ) (f : Fault) (n : ℕ) → k ≤ m → gathered entry start k ≡ refused f n → gathered entry start m ≡ refused f n
+  refused-stays : (k m : ℕ) (f : Fault) (n : ℕ) → k ≤ m → gathered entry start k ≡ refused f n → gathered entry start m ≡ refused f n
   refused-stays k m f n h e =
       let is : k + (m - k) ≡ m = omega arith in
       rw is at (refused-on k (m - k) f n e)
+
+  -- and a record with a fault makes one
+  pub fault-stays : (k : ℕ) (y : Year) (f : Fault) (n : ℕ) → k < n → gathered entry start k ≡ done y → entry k y ≡ Faulty f → gathered entry start n ≡ refused f k
+  fault-stays k y f n l e r = refused-stays (suc k) n f k (omega arith) (gathered-more k y e ∙ ap (taken y k) r)
 
   -- what is done was done before the last record
   done-before : (k : ℕ) (z : Year) → gathered entry start (suc k) ≡ done z → gathered entry start k ≡ done (gathered entry start k .year)
@@ -115,10 +119,7 @@ module _ (entry : ℕ → Year → Record) (start : Year) where
 
   -- and the whole of what is handed back with it
   pub refused-whole : (m : ℕ) (f : Fault) (k : ℕ) → gathered entry start m .answer ≡ Refused f k → gathered entry start m ≡ refused f k
-  refused-whole m f k e =
-      let r = first-fault m f k e in
-      let here : gathered entry start (suc k) ≡ refused f k = gathered-more k (r .1 .so-far) (r .1 .taken-before) ∙ ap (taken (r .1 .so-far) k) (r .1 .fault-here) in
-      refused-stays (suc k) m f k (omega (arith, r .0)) here
+  refused-whole m f k e = let r = first-fault m f k e in fault-stays k (r .1 .so-far) f m (r .0) (r .1 .taken-before) (r .1 .fault-here)
 
 -- two lists whose records are the same behind each year that is met
 module _ (entry other : ℕ → Year → Record) (start : Year) where

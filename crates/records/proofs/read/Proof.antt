@@ -1,18 +1,15 @@
 -- `read`: the year held is what the definition has after the same records; a refusal stays to the end of the list.
 use Rattle.records.proofs.read.Statement.{statement}
 use Rattle.records.proofs.read.Tie as tie
-use Prim.Native.Nat.{ℕ, suc, _+_, _*_, _/_, _-_, _≤_, _<_}
+use Prim.Native.Nat.{_+_, _*_, _/_, _-_, _≤_, _<_}
 use mathlib.Core.Path.{_≡_, _∙_, ap, sym}
-use mathlib.Core.List.{List}
 use mathlib.Core.Logic.{⊎-elim}
 use native.Mathlib.Omega.{arith}
 use native.Mathlib.Numerals.{add-one}
 use lib.ListN.{length}
-use Rattle.year.specs.declared.Year.{Year}
-use Rattle.records.specs.declared.Fault.{Fault}
-use Rattle.records.specs.Reading.{Faulty, ofTerm, ofCourse, blankYear, done, refused, taken, recordIn, readTo, readList}
+use Rattle.records.specs.Reading.{ofTerm, ofCourse, blankYear, done, refused, taken, recordIn, readTo, readList}
 use Rattle.records.proofs.EntryLaws.{term-read, course-read, at-term, at-course, at-neither}
-use Rattle.records.proofs.GatherLaws.{gathered-zero, gathered-more, refused-stays}
+use Rattle.records.proofs.GatherLaws.{gathered-zero, gathered-more, fault-stays}
 use Rattle.records.proofs.ListLaws.{Front, read-front}
 use borrow.Author.Needs.{needs}
 
@@ -31,11 +28,6 @@ term-room c = term-read _ _ _ (c .t .given .0 .0) (sym (c .before .before .read-
 
 course-room : (c : tie.After-c Inv-loop μ-loop) → c .before .before .before .before .before .before .loop .y .courses < 64
 course-room c = course-read _ _ _ _ (c .c .given .0 .0) (sym (c .before .before .read-course .ensures) ∙ c .c .given .1) .room
-
--- a record with a fault ends the list
-stops : (s : List ℕ) (k : ℕ) (y : Year) (f : Fault) → k < length s / 16 → readTo s k ≡ done y → recordIn s k y ≡ Faulty f → readTo s (length s / 16) ≡ refused f k
-stops s k y f l e r =
-    refused-stays (recordIn s) blankYear (suc k) (length s / 16) f k (omega (arith, add-one k)) (gathered-more (recordIn s) blankYear k y e ∙ ap (taken y k) r)
 
 bad-length-requires : tie.Need-bad-length-requires Inv-loop μ-loop
 bad-length-requires c κs = search needs
@@ -87,7 +79,7 @@ returns-2 c =
     let l = i .before .before .before in
     let b = l .before .before .before .before .before .args .s .now in
     c .refused2 .ensures
-    ∙ sym (simp (sym (l .before .before .before .bad-length .ensures) ∙ l .before .before .if1 .left) (stops b (l .loop .k) (l .loop .y) _ (omega arith) (l .loop .inv .1) (at-course b (l .loop .k * 16) (l .loop .y .terms) (l .loop .y .courses) (i .if2 .taken) ∙ ap ofCourse (sym (c .before .before .before .before .read-course .ensures) ∙ c .before .before .f .given .1))))
+    ∙ sym (simp (sym (l .before .before .before .bad-length .ensures) ∙ l .before .before .if1 .left) (fault-stays (recordIn b) blankYear (l .loop .k) (l .loop .y) _ (length b / 16) (omega arith) (l .loop .inv .1) (at-course b (l .loop .k * 16) (l .loop .y .terms) (l .loop .y .courses) (i .if2 .taken) ∙ ap ofCourse (sym (c .before .before .before .before .read-course .ensures) ∙ c .before .before .f .given .1))))
 
 shared-slice-read-if3 : tie.Need-shared-slice-read-if3 Inv-loop μ-loop
 shared-slice-read-if3 c = search needs
@@ -120,7 +112,7 @@ returns-3 c =
     let l = i .before .before .before .before .before in
     let b = l .before .before .before .before .before .args .s .now in
     c .refused3 .ensures
-    ∙ sym (simp (sym (l .before .before .before .bad-length .ensures) ∙ l .before .before .if1 .left) (stops b (l .loop .k) (l .loop .y) _ (omega arith) (l .loop .inv .1) (at-term b (l .loop .k * 16) (l .loop .y .terms) (l .loop .y .courses) (i .if3 .taken) ∙ ap ofTerm (sym (c .before .before .before .before .read-term .ensures) ∙ c .before .before .f2 .given .1))))
+    ∙ sym (simp (sym (l .before .before .before .bad-length .ensures) ∙ l .before .before .if1 .left) (fault-stays (recordIn b) blankYear (l .loop .k) (l .loop .y) _ (length b / 16) (omega arith) (l .loop .inv .1) (at-term b (l .loop .k * 16) (l .loop .y .terms) (l .loop .y .courses) (i .if3 .taken) ∙ ap ofTerm (sym (c .before .before .before .before .read-term .ensures) ∙ c .before .before .f2 .given .1))))
 
 refused-requires-4 : tie.Need-refused-requires-4 Inv-loop μ-loop
 refused-requires-4 c κs = search needs
@@ -132,7 +124,7 @@ returns-4 c =
     let l = i .before .before .before .before .before in
     let b = l .before .before .before .before .before .args .s .now in
     c .refused4 .ensures
-    ∙ sym (simp (sym (l .before .before .before .bad-length .ensures) ∙ l .before .before .if1 .left) (stops b (l .loop .k) (l .loop .y) _ (omega arith) (l .loop .inv .1) (at-neither b (l .loop .k * 16) (l .loop .y .terms) (l .loop .y .courses) (i .if3 .left) (i .before .before .if2 .left))))
+    ∙ sym (simp (sym (l .before .before .before .bad-length .ensures) ∙ l .before .before .if1 .left) (fault-stays (recordIn b) blankYear (l .loop .k) (l .loop .y) _ (length b / 16) (omega arith) (l .loop .inv .1) (at-neither b (l .loop .k * 16) (l .loop .y .terms) (l .loop .y .courses) (i .if3 .left) (i .before .before .if2 .left))))
 
 add-k : tie.Need-add-k Inv-loop μ-loop
 add-k c = search needs

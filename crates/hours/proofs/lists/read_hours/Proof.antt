@@ -1,13 +1,13 @@
 -- `read_hours`: the year held is what the definition has after the same records; a refusal stays to the end of the list.
 use Rattle.hours.proofs.lists.read_hours.Statement.{statement}
 use Rattle.hours.proofs.lists.read_hours.Tie as tie
-use Prim.Native.Nat.{suc, _/_, _-_, _≤_, _<_}
+use Prim.Native.Nat.{_/_, _-_, _≤_, _<_}
 use mathlib.Core.Path.{_≡_, _∙_, ap, sym}
 use native.Mathlib.Omega.{arith}
 use native.Mathlib.Numerals.{add-one}
 use lib.ListN.{length}
 use Rattle.records.specs.Reading.{ofCourse, done, refused, taken, gathered}
-use Rattle.records.proofs.GatherLaws.{gathered-zero, gathered-more, refused-stays}
+use Rattle.records.proofs.GatherLaws.{gathered-zero, gathered-more, fault-stays}
 use Rattle.hours.specs.Joining.{hoursEntry, hoursList}
 use Rattle.hours.proofs.EntryLaws.{hours-read}
 use Rattle.hours.proofs.JoinLaws.{terms-same}
@@ -68,12 +68,8 @@ returns-2 c =
     let b = c .before .before .before .before .before .before in
     let a = b .before .before .before .before .args in
     let s = a .s .now in
-    let k = b .loop .k in
-    let f = c .before .before .f .given .0 .0 in
-    let more : gathered (hoursEntry s) (a .y) (suc k) ≡ refused f k =
-    gathered-more (hoursEntry s) (a .y) k (b .loop .z) (b .loop .inv .1) ∙ ap (λ r. taken (b .loop .z) k (ofCourse r)) (sym (c .before .before .before .before .hours-record .ensures) ∙ c .before .before .f .given .1) in
     c .refused2 .ensures
-    ∙ sym (simp (sym (b .before .before .bad-hours .ensures) ∙ b .before .if1 .left) (refused-stays (hoursEntry s) (a .y) (suc k) (length s / 16) f k (omega (arith, add-one k)) more))
+    ∙ sym (simp (sym (b .before .before .bad-hours .ensures) ∙ b .before .if1 .left) (fault-stays (hoursEntry s) (a .y) (b .loop .k) (b .loop .z) _ (length s / 16) (omega arith) (b .loop .inv .1) (ap ofCourse (sym (c .before .before .before .before .hours-record .ensures) ∙ c .before .before .f .given .1))))
 
 add-k : tie.Need-add-k Inv-loop μ-loop
 add-k c = search needs

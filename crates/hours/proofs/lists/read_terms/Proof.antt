@@ -1,13 +1,13 @@
 -- `read_terms`: the year held is what the definition has after the same records; a refusal stays to the end of the list.
 use Rattle.hours.proofs.lists.read_terms.Statement.{statement}
 use Rattle.hours.proofs.lists.read_terms.Tie as tie
-use Prim.Native.Nat.{suc, _/_, _-_, _≤_, _<_}
+use Prim.Native.Nat.{_/_, _-_, _≤_, _<_}
 use mathlib.Core.Path.{_≡_, _∙_, ap, sym}
 use native.Mathlib.Omega.{arith}
 use native.Mathlib.Numerals.{add-one}
 use lib.ListN.{length}
 use Rattle.records.specs.Reading.{ofTerm, blankYear, done, refused, taken, gathered}
-use Rattle.records.proofs.GatherLaws.{gathered-zero, gathered-more, refused-stays}
+use Rattle.records.proofs.GatherLaws.{gathered-zero, gathered-more, fault-stays}
 use Rattle.hours.specs.Joining.{termEntry, termList}
 use Rattle.hours.proofs.EntryLaws.{alone-read}
 use borrow.Author.Needs.{needs}
@@ -66,13 +66,8 @@ unfolding termList
 returns-2 c =
     let b = c .before .before .before .before .before .before in
     let s = b .before .before .before .before .before .args .s .now in
-    let k = b .loop .k in
-    let y = b .loop .y in
-    let f = c .before .before .f .given .0 .0 in
-    let more : gathered (termEntry s) blankYear (suc k) ≡ refused f k =
-    gathered-more (termEntry s) blankYear k y (b .loop .inv .1) ∙ ap (λ r. taken y k (ofTerm r)) (sym (c .before .before .before .before .term-alone .ensures) ∙ c .before .before .f .given .1) in
     c .refused2 .ensures
-    ∙ sym (simp (sym (b .before .before .before .bad-length .ensures) ∙ b .before .before .if1 .left) (refused-stays (termEntry s) blankYear (suc k) (length s / 16) f k (omega (arith, add-one k)) more))
+    ∙ sym (simp (sym (b .before .before .before .bad-length .ensures) ∙ b .before .before .if1 .left) (fault-stays (termEntry s) blankYear (b .loop .k) (b .loop .y) _ (length s / 16) (omega arith) (b .loop .inv .1) (ap ofTerm (sym (c .before .before .before .before .term-alone .ensures) ∙ c .before .before .f .given .1))))
 
 add-k : tie.Need-add-k Inv-loop μ-loop
 add-k c = search needs
