@@ -168,10 +168,12 @@ handed-back = (refl, refl)
 
 -- ---- several faults at once
 
--- the last record of the terms is told before the length of the hours list
-pub terms-first : told (termsE ++ plainTerm 3) (replicate 17 0) ≡ inTerms 3 2
+-- the last record of the terms is told before the length of the hours list, and before its first record
+pub terms-first : (told (termsE ++ plainTerm 3) (replicate 17 0) ≡ inTerms 3 2)
+    × (told (termsE ++ plainTerm 3) (replicate 16 0) ≡ inTerms 3 2)
+    × (told (termsE ++ plainTerm 3) (plainHours 1) ≡ inTerms 3 2)
 unfolding computing
-terms-first = refl
+terms-first = (refl, refl, refl)
 
 -- within a record the lower number: letter, number, edition or weight, list, zeros
 pub within : (told oneTerm (set (plainHours 1) 0 67) ≡ inHours 2 0)

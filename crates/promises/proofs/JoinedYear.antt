@@ -18,7 +18,7 @@ use Rattle.records.specs.declared.Reading.the-variants as reading
 use Rattle.records.specs.declared.Received.{Received}
 use Rattle.records.proofs.ReadWrite.{read-write}
 use Rattle.records.proofs.WriteRead.{write-read}
-use Rattle.hours.specs.Numbers.{editionNumber, joiningNumber, joiningPlace}
+use Rattle.hours.specs.Numbers.{editionNumber, joiningNumber, joiningList, joiningPlace}
 use Rattle.hours.specs.Entries.{weightBy}
 use Rattle.hours.specs.Joining.{termList, joinOf}
 use Rattle.hours.specs.declared.Edition.{Edition}
@@ -101,11 +101,16 @@ as-reading s none =
       same-number = ap (λ (r : Joined). joiningNumber (r .answer)) j ∙ number (readList s .answer);
       same-place = ap (λ (r : Joined). joiningPlace (r .answer)) j ∙ place (readList s .answer);
       same-year = ap (λ (r : Joined). r .year) j;
+      in-terms = λ n. ap (λ (r : Joined). joiningList (r .answer)) j ∙ named (readList s .answer) (λ e. n (ap (λ (r : Joined). joiningNumber (r .answer)) j ∙ e));
     }
   where
     number : (a : Reading) → joiningNumber (inTerms a) ≡ readingNumber a
     number reading.Done = refl
     number (reading.Refused f k) = refl
+
+    named : (a : Reading) → (joiningNumber (inTerms a) ≡ 0 → ⊥) → joiningList (inTerms a) ≡ 1
+    named reading.Done n = absurd (n refl)
+    named (reading.Refused f k) n = refl
 
     place : (a : Reading) → joiningPlace (inTerms a) ≡ readingPlace a
     place reading.Done = refl

@@ -114,11 +114,12 @@ pub record JoinedYear (t h : List ℕ) (y : Year) : Type 0 where
 abbrev pub NoCourse : List ℕ → Type 0
 NoCourse s = (k : ℕ) → k < length s / 16 → byteOf s k 0 ≡ C → ⊥
 
--- joined with an empty list, s is answered as reading it is: the number, the place and the year
+-- joined with an empty list, s is answered as reading it is: the number, the place and the year; what is refused is s
 pub record AsReading (s : List ℕ) : Type 0 where
   pub same-number : number s [] ≡ readingNumber (readList s .answer)
   pub same-place : place s [] ≡ readingPlace (readList s .answer)
   pub same-year : joinOf s [] .year ≡ readList s .year
+  pub in-terms : (number s [] ≡ 0 → ⊥) → list s [] ≡ 1
 
 pub record HoursMean : Type 0 where
   pub joined-year : (t h : List ℕ) → number t h ≡ 0 → JoinedYear t h (joinOf t h .year)

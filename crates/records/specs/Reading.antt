@@ -22,7 +22,7 @@ use Rattle.records.specs.Bytes.{letterAt, byteAt, wordAt, blankFrom}
 
 -- ---- one record
 
--- refusal 3 passes: it bears the next number of its kind, and the largest year has room for it
+-- it bears the next number of its kind, and the largest year has room for it; otherwise refusal 3
 abbrev pub bearsNext : List ℕ → ℕ → ℕ → ℕ → Bool
 bearsNext s at next most = eqb (byteAt s at 1) next && ltb next most
 
