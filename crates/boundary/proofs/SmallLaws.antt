@@ -8,7 +8,7 @@ use Rattle.records.specs.declared.Fault.{Fault}
 use Rattle.records.specs.declared.Reading.{Reading}
 use Rattle.records.specs.declared.Reading.the-variants.{Done, Refused}
 use Rattle.records.specs.Numbers.{readingPlace}
-use Rattle.records.specs.Reading.{refused, readList}
+use Rattle.records.specs.Reading.{readList}
 use Rattle.records.proofs.ListLaws.{place-few}
 use Rattle.filter.specs.Filter.{filterOf}
 use Rattle.filter.specs.Numbers.{filterRule}

@@ -12,13 +12,13 @@ use Rattle.theory.proofs.SumLaws.{sum-more, sum-le-mul, sum-change, sum-term-le
 use Rattle.theory.specs.Others.{others}
 use Rattle.theory.proofs.LoadLaws.{others-split}
 use Rattle.year.specs.Year.{termAt, zeroTerm}
+use Rattle.frame.specs.Bounds.{termIn, highIn, lowIn, leastIn, mostIn}
 use Rattle.year.specs.Sums.{allCredits, fixedCredits, openCredits, fixedCount, openCount}
 use Rattle.year.specs.SumsOf.{sumsAt}
 use Rattle.year.specs.Sound.{Sound, TermSound}
 use Rattle.year.specs.Tight.{creditsWithin, countsWithin}
 use Rattle.year.specs.declared.Term.{Term}
 use Rattle.year.specs.declared.Year.{Year}
-use Rattle.totals.specs.Parts.{termIn, highIn, lowIn, leastIn, mostIn}
 use Rattle.rules.specs.Step.{outcome}
 use Rattle.rules.specs.Bounds.{rule1, rule2, rule4, rule5}
 use Rattle.rules.proofs.Steps.{credits-tighter, counts-tighter}

@@ -4,7 +4,8 @@ use mathlib.Core.Bool.{false}
 use mathlib.Core.List.{List}
 use lib.Dec.{ltb}
 use Rattle.theory.specs.Sum.{sum}
-use Rattle.totals.specs.Parts.{termIn, lowIn, highIn, leastIn, mostIn, sumsIn}
+use Rattle.frame.specs.Bounds.{termIn, lowIn, highIn, leastIn, mostIn}
+use Rattle.year.specs.SumsOf.{sumsIn}
 use Rattle.year.specs.Tight.{creditsWithin, countsWithin}
 use Rattle.year.specs.declared.Term.{Term}
 use Rattle.year.specs.declared.Sums.{Sums}

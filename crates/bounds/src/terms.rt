@@ -14,9 +14,9 @@ ghost use mathlib.Core.Path.{_≡_};
 ghost use Prim.Native.Nat.{ℕ, _-_, _≤_, _<_};
 ghost use lib.ListN.{length};
 ghost use Rattle.year.specs.Sound.{TermSound};
-ghost use Rattle.totals.specs.Parts.{termIn, sumsIn};
+ghost use Rattle.year.specs.SumsOf.{sumsIn};
 ghost use Rattle.bounds.specs.AtTerm.{totalsTo, totalsWith, totalsAfter, rule1Of, rule2Of, rule4Of, rule5Of, ownSumsOf, otherTermsOf, ownSumsAt, otherTermsAt};
-ghost use Rattle.frame.specs.Bounds.{boundsOver};
+ghost use Rattle.frame.specs.Bounds.{boundsOver, termIn};
 
 fn with_term(x: Totals, t: Term) -> Totals
     requires { ⌜ TermSound t ⌝ }

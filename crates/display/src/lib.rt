@@ -4,6 +4,7 @@ use records::Reading;
 use year::Course;
 use year::Term;
 use year::Year;
+use year::pairs;
 ghost use mathlib.Core.Path.{_≡_};
 ghost use Prim.Native.Nat.{_+_, _<_, _≤_};
 ghost use lib.ListN.{length, take};
@@ -68,7 +69,7 @@ fn course_lines(buf: &mut [u8], at: usize, y: Year) -> usize
 {
     let mut end = at;
     for i in 0..y.courses {
-        end = course_line(buf, end, i, y.course[i]);
+        end = course_line(buf, end, i, pairs::course_of(y.weight[i], y.list[i]));
     }
     end
 }

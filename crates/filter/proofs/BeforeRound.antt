@@ -1,19 +1,13 @@
 -- What holds before each round of a filtering, and what one more round makes of it: it ends the filtering, or the narrower holds before the next.
 use Prim.Native.Nat.{ℕ, _+_, _≤_, _<_}
 use mathlib.Core.Bool.{true, false}
-use mathlib.Core.List.{List}
 use mathlib.Core.Path.{_≡_, refl, sym, ap, subst, _∙_}
 use native.Mathlib.Omega.{arith}
 use lib.Dec.{eqb}
-use lib.ListN.{length, getD}
 use borrow.Author.Tests.{eq-eqb, ne-eqb}
-use Rattle.theory.proofs.TabLaws.{length-tab}
-use Rattle.year.specs.Year.{weight}
-use Rattle.totals.specs.Parts.{weightsOf}
 use Rattle.year.specs.Sums.{allCredits}
 use Rattle.year.specs.Sound.{Sound}
 use Rattle.year.specs.declared.Year.{Year}
-use Rattle.totals.proofs.PartLaws.{own-weights}
 use Rattle.rules.specs.Step.{live, Step}
 use Rattle.frame.specs.State.{held, yearIn, stepIn}
 use Rattle.rules.specs.Round.{passesOf, passesFrom, round}
@@ -29,31 +23,25 @@ use Rattle.filter.specs.Filter.{filtered, atRest, roundsFrom}
 use Rattle.filter.specs.Halves.{firstHalf, secondHalf}
 use Rattle.filter.specs.declared.Answer.the-variants.{NoPlan}
 use Rattle.filter.specs.declared.Filtered.{Filtered}
-use Rattle.filter.proofs.StateAt.{Own, StateAt, state-sound, state-self, state-step, state-year, state-credits, state-rule}
+use Rattle.filter.proofs.StateAt.{StateAt, state-sound, state-self, state-step, state-year, state-credits, state-rule}
 use Rattle.filter.proofs.RoundLaws.{halves, roundsLeft, round-no-plan, round-at-rest, round-alters, round-falls}
 
 -- after n rounds, each of which altered something: what is left to do from the year at hand gives what the whole filtering
 -- gives, and the leeway of that year has fallen by at least one a round
-pub record BeforeRound (y : Year) (w : List ℕ) (o : Orders) (s : State) (n : ℕ) : Type 0 where
-  pub from : roundsFrom 1025985 y y 0 ≡ roundsFrom (roundsLeft n) y (yearIn w s) n
-  pub few : leeway (yearIn w s) + n ≤ 1025984
-  pub narrower : Narrower y (yearIn w s)
-  pub is : s ≡ held (live (yearIn w s))
-  pub orders : (n + 1 ≡ 1 → ⊥) → o ≡ ordersIn w (y .courses)
+pub record BeforeRound (y : Year) (o : Orders) (s : State) (n : ℕ) : Type 0 where
+  pub from : roundsFrom 1025985 y y 0 ≡ roundsFrom (roundsLeft n) y (yearIn (y .weight) s) n
+  pub few : leeway (yearIn (y .weight) s) + n ≤ 1025984
+  pub narrower : Narrower y (yearIn (y .weight) s)
+  pub is : s ≡ held (live (yearIn (y .weight) s))
+  pub orders : (n + 1 ≡ 1 → ⊥) → o ≡ ordersIn (y .weight) (y .courses)
 
-module _ (y : Year) (w : List ℕ) (sound : Sound y) (e : w ≡ weightsOf y) where
-  own : Own w y
-  own i h = ap (λ (v : List ℕ). getD v i 0) e ∙ own-weights y i h
-
-  pub long : length w ≡ 64
-  long = ap length e ∙ length-tab 64 (weight y)
-
+module _ (y : Year) (sound : Sound y) where
   -- ---- before the first round
 
-  pub before-first : (o : Orders) (s : State) → s ≡ held (live y) → BeforeRound y w o s 0
+  pub before-first : (o : Orders) (s : State) → s ≡ held (live y) → BeforeRound y o s 0
   before-first o s q =
       let at : StateAt y s (live y) = record { is = q; narrower = narrower-self y sound } in
-      let year : yearIn w s ≡ y = state-year w y own s (live y) at in
+      let year : yearIn (y .weight) s ≡ y = state-year y s (live y) at in
       record {
         from = ap (λ (x : Year). roundsFrom 1025985 y x 0) (sym year);
         few = subst (λ (x : Year). leeway x + 0 ≤ 1025984) (sym year) (omega (arith, leeway-most y sound));
@@ -64,9 +52,9 @@ module _ (y : Year) (w : List ℕ) (sound : Sound y) (e : w ≡ weightsOf y) whe
 
   -- ---- one round more
 
-  module _ (o : Orders) (s : State) (n : ℕ) (g : BeforeRound y w o s n) where
+  module _ (o : Orders) (s : State) (n : ℕ) (g : BeforeRound y o s n) where
     abbrev z : Year
-    z = yearIn w s
+    z = yearIn (y .weight) s
 
     pub round-few : n ≤ 1025984
     round-few = omega (arith, g .few)
@@ -76,7 +64,7 @@ module _ (y : Year) (w : List ℕ) (sound : Sound y) (e : w ≡ weightsOf y) whe
 
     -- what the first half asks
     pub credits : (a : ℕ) → a ≡ allCredits y → a ≡ allCredits z
-    credits a q = state-credits w y own s (live z) at0 a q
+    credits a q = state-credits y s (live z) at0 a q
 
     -- the round ends with a rule that finds no plan
     ended : (k : ℕ) → k ≡ round z .rule → (k ≡ 0 → ⊥) → (f : Filtered) → f ≡ filtered (NoPlan k (n + 1)) y → f ≡ roundsFrom 1025985 y y 0
@@ -101,39 +89,39 @@ module _ (y : Year) (w : List ℕ) (sound : Sound y) (e : w ≡ weightsOf y) whe
 
       pub first-ended : (r1 .rule ≡ 0 → ⊥) → (f : Filtered) → f ≡ filtered (NoPlan (r1 .rule) (n + 1)) y → f ≡ roundsFrom 1025985 y y 0
       first-ended d =
-          let q = state-rule w y own r1 (firstHalf z) at1 in
+          let q = state-rule y r1 (firstHalf z) at1 in
           let last = first-last (ne-eqb (firstHalf z .rule) 0 (λ t. d (q ∙ t))) in
           ended (r1 .rule) (q ∙ ap (λ (p : Step). p .rule) (sym last)) d
 
       -- what the second half asks
-      pub first-sound : Sound (yearIn w r1)
-      first-sound = state-sound w y own r1 (firstHalf z) at1
+      pub first-sound : Sound (yearIn (y .weight) r1)
+      first-sound = state-sound y r1 (firstHalf z) at1
 
-      pub first-self : r1 ≡ held (stepIn w r1)
-      first-self = state-self w y own r1 (firstHalf z) at1
+      pub first-self : r1 ≡ held (stepIn (y .weight) r1)
+      first-self = state-self y r1 (firstHalf z) at1
 
-      pub first-orders : (p : Orders) → p ≡ ordersIn w (y .courses) → p ≡ ordersOf (yearIn w r1)
+      pub first-orders : (p : Orders) → p ≡ ordersIn (y .weight) (y .courses) → p ≡ ordersOf (yearIn (y .weight) r1)
       first-orders p q =
           q
-          ∙ orders-are y w sound e
+          ∙ orders-are y
           ∙ sym (orders-weights y (firstHalf z .year) (at1 .narrower .courses-same) (at1 .narrower .weight-same))
-          ∙ ap ordersOf (sym (state-year w y own r1 (firstHalf z) at1))
+          ∙ ap ordersOf (sym (state-year y r1 (firstHalf z) at1))
 
-      module _ (r2 : State) (e2 : r2 ≡ held (secondHalf (stepIn w r1))) where
+      module _ (r2 : State) (e2 : r2 ≡ held (secondHalf (stepIn (y .weight) r1))) where
         at2 : StateAt y r2 (round z)
         at2 = record {
-          is = e2 ∙ ap (λ (p : Step). held (secondHalf p)) (state-step w y own r1 (firstHalf z) at1) ∙ ap held (sym (halves z));
+          is = e2 ∙ ap (λ (p : Step). held (secondHalf p)) (state-step y r1 (firstHalf z) at1) ∙ ap held (sym (halves z));
           narrower = narrower-then y z (round z .year) (g .narrower) (narrows-round z (g .narrower .sound) .year);
         }
 
         rule-is : r2 .rule ≡ round z .rule
-        rule-is = state-rule w y own r2 (round z) at2
+        rule-is = state-rule y r2 (round z) at2
 
         altered-is : r2 .altered ≡ round z .altered
         altered-is = ap (λ (q : State). q .altered) (at2 .is)
 
-        year-is : yearIn w r2 ≡ round z .year
-        year-is = state-year w y own r2 (round z) at2
+        year-is : yearIn (y .weight) r2 ≡ round z .year
+        year-is = state-year y r2 (round z) at2
 
         lives : r2 .rule ≡ 0 → eqb (round z .rule) 0 ≡ true
         lives d = eq-eqb (round z .rule) 0 (sym rule-is ∙ d)
@@ -141,14 +129,14 @@ module _ (y : Year) (w : List ℕ) (sound : Sound y) (e : w ≡ weightsOf y) whe
         pub second-ended : (r2 .rule ≡ 0 → ⊥) → (f : Filtered) → f ≡ filtered (NoPlan (r2 .rule) (n + 1)) y → f ≡ roundsFrom 1025985 y y 0
         second-ended d = ended (r2 .rule) rule-is d
 
-        pub second-sound : Sound (yearIn w r2)
-        second-sound = state-sound w y own r2 (round z) at2
+        pub second-sound : Sound (yearIn (y .weight) r2)
+        second-sound = state-sound y r2 (round z) at2
 
-        pub second-self : r2 ≡ held (stepIn w r2)
-        second-self = state-self w y own r2 (round z) at2
+        pub second-self : r2 ≡ held (stepIn (y .weight) r2)
+        second-self = state-self y r2 (round z) at2
 
         -- the year is at rest
-        pub second-at-rest : r2 .rule ≡ 0 → r2 .altered ≡ false → (f : Filtered) → f ≡ filtered (atRest (yearIn w r2) (n + 1)) (yearIn w r2) → f ≡ roundsFrom 1025985 y y 0
+        pub second-at-rest : r2 .rule ≡ 0 → r2 .altered ≡ false → (f : Filtered) → f ≡ filtered (atRest (yearIn (y .weight) r2) (n + 1)) (yearIn (y .weight) r2) → f ≡ roundsFrom 1025985 y y 0
         second-at-rest d a f q =
             q
             ∙ ap (λ (x : Year). filtered (atRest x (n + 1)) x) year-is
@@ -156,7 +144,7 @@ module _ (y : Year) (w : List ℕ) (sound : Sound y) (e : w ≡ weightsOf y) whe
             ∙ sym (g .from)
 
         -- or there is less to narrow, and the filtering goes on
-        pub second-falls : r2 .altered ≡ true → leeway (yearIn w r2) < leeway z
+        pub second-falls : r2 .altered ≡ true → leeway (yearIn (y .weight) r2) < leeway z
         second-falls a = subst (λ (x : Year). leeway x < leeway z) (sym year-is) (round-falls z (g .narrower .sound) (sym altered-is ∙ a))
 
         abbrev again : State
@@ -170,7 +158,7 @@ module _ (y : Year) (w : List ℕ) (sound : Sound y) (e : w ≡ weightsOf y) whe
           rule = r2 .rule;
         }
 
-        pub second-alters : r2 .rule ≡ 0 → r2 .altered ≡ true → (p : Orders) → p ≡ ordersIn w (y .courses) → BeforeRound y w p again (n + 1)
+        pub second-alters : r2 .rule ≡ 0 → r2 .altered ≡ true → (p : Orders) → p ≡ ordersIn (y .weight) (y .courses) → BeforeRound y p again (n + 1)
         second-alters d a p q = record {
           from = g .from ∙ round-alters y z n round-few (lives d) (sym altered-is ∙ a) ∙ ap (λ (x : Year). roundsFrom (roundsLeft (n + 1)) y x (n + 1)) (sym year-is);
           few = omega (arith, g .few, second-falls a);
@@ -179,8 +167,8 @@ module _ (y : Year) (w : List ℕ) (sound : Sound y) (e : w ≡ weightsOf y) whe
             terms = r2 .terms;
             courses = r2 .courses;
             term = r2 .term;
-            list = ap (λ (x : State). x .list) second-self i;
-            sums = ap (λ (x : State). x .sums) second-self i;
+            list = r2 .list;
+            sums = second-self i .sums;
             altered = false;
             rule = d i;
           };

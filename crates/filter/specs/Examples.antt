@@ -4,7 +4,8 @@
 use Prim.Native.Nat.{ℕ}
 use mathlib.Core.List.{[], _∷_}
 use mathlib.Core.Path.{_≡_, refl}
-use Rattle.year.specs.Year.{termOf, courseOf, withTerm}
+use Rattle.year.specs.Year.{termOf, courseOf}
+use Rattle.year.specs.Doors.{withTerm}
 use Rattle.year.specs.Examples.{yearOf, yearE}
 use Rattle.rules.specs.Examples.{atASize, atATermsSize, atHalf, aboveHalf, atItsOwnSize}
 use Rattle.year.specs.declared.Year.{Year}

@@ -3,14 +3,11 @@ use crate::Answer;
 use crate::Filtered;
 use frame::State;
 use orders::Orders;
-use totals::Columns;
-use totals::parts;
 use year::Credits;
 use year::Year;
 ghost use mathlib.Core.Path.{_≡_};
 ghost use Prim.Native.Nat.{ℕ, _≤_, _<_};
 ghost use lib.ListN.{length, getD};
-ghost use Rattle.totals.specs.Parts.{columnsOf};
 ghost use Rattle.year.specs.Sums.{allCredits};
 ghost use Rattle.year.specs.Sound.{Sound};
 ghost use Rattle.orders.specs.Orders.{ordersIn, ordersOf};
@@ -21,15 +18,13 @@ ghost use Rattle.filter.specs.Halves.{firstHalf, secondHalf};
 ghost use Rattle.filter.specs.Filter.{filtered, atRest, roundsFrom};
 
 // A year about to go through a round, but for its weights.
-fn start(y: Year, q: Columns) -> State
+fn start(y: Year) -> State
     requires { ⌜ Sound y ⌝ }
-    requires { ⌜ q ≡ columnsOf y ⌝ }
     ensures { λ r. ⌜ r ≡ held (live y) ⌝ }
 {
     let term = y.term;
-    let weight = q.weight;
-    let list = q.list;
-    let sums = totals::sums_over(&weight, &list, y.terms, y.courses);
+    let list = y.list;
+    let sums = totals::sums_of(y);
     State {
         terms: y.terms,
         courses: y.courses,
@@ -43,7 +38,6 @@ fn start(y: Year, q: Columns) -> State
 
 // Rules 1 to 5 in order, up to one that finds no plan.
 fn first_half(s: State, weight: &[u32], all: Credits) -> State
-    requires { ⌜ length (now weight) ≡ 64 ⌝ }
     requires { ⌜ Sound (yearIn (now weight) s) ⌝ }
     requires { ⌜ s ≡ held (live (yearIn (now weight) s)) ⌝ }
     requires { ⌜ all .0 ≡ allCredits (yearIn (now weight) s) ⌝ }
@@ -60,7 +54,6 @@ fn first_half(s: State, weight: &[u32], all: Credits) -> State
 
 // Rules 6 to 11 in order, up to one that finds no plan.
 fn second_half(s: State, weight: &[u32], o: Orders) -> State
-    requires { ⌜ length (now weight) ≡ 64 ⌝ }
     requires { ⌜ Sound (yearIn (now weight) s) ⌝ }
     requires { ⌜ s ≡ held (stepIn (now weight) s) ⌝ }
     requires { ⌜ o ≡ ordersOf (yearIn (now weight) s) ⌝ }
@@ -101,21 +94,19 @@ fn no_plan(y: Year, rule: u32, n: u32) -> Filtered
     handed_back(Answer::NoPlan(rule, n), y)
 }
 
-// The year of a state.
-fn year_in(s: State, weight: &[u32]) -> Year
-    requires { ⌜ length (now weight) ≡ 64 ⌝ }
-    requires { ⌜ Sound (yearIn (now weight) s) ⌝ }
-    requires { ⌜ s ≡ held (stepIn (now weight) s) ⌝ }
-    ensures { λ r. ⌜ r ≡ yearIn (now (weight .entry)) s ⌝ }
+// The year of a state, with the weights of y.
+fn year_in(s: State, y: Year) -> Year
+    ensures { λ r. ⌜ r ≡ yearIn (y .weight) s ⌝ }
 {
     let term = s.term;
+    let weight = y.weight;
     let list = s.list;
-    let course = parts::together(weight, &list, s.courses);
     Year {
         terms: s.terms,
         courses: s.courses,
         term: term,
-        course: course,
+        weight: weight,
+        list: list,
     }
 }
 
@@ -135,14 +126,13 @@ pub fn run(y: Year) -> Filtered
     requires { ⌜ Sound y ⌝ }
     ensures { λ r. ⌜ r ≡ roundsFrom 1025985 y y 0 ⌝ }
 {
-    let q = parts::apart(y);
-    let weight = q.weight;
+    let weight = y.weight;
     let all = totals::all_credits(y);
     let mut o = Orders {
         down: [0u8; Year::COURSES],
         up: [0u8; Year::COURSES],
     };
-    let mut s = start(y, q);
+    let mut s = start(y);
     let mut n: u32 = 0;
     loop {
         s = first_half(s, &weight, all);
@@ -156,7 +146,7 @@ pub fn run(y: Year) -> Filtered
             return no_plan(y, s.rule, n);
         }
         if !s.altered {
-            let z = year_in(s, &weight);
+            let z = year_in(s, y);
             return handed_back(at_rest(z, n), z);
         }
         s.altered = false;

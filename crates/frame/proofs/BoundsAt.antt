@@ -10,21 +10,20 @@ use lib.Seq.{getD-set-same, getD-set-other}
 use Rattle.theory.specs.Tab.{tab}
 use Rattle.year.specs.Year.{zeroTerm, termAt}
 use Rattle.year.specs.Sums.{fixedCount, openCount}
-use Rattle.year.specs.SumsOf.{sumsAt}
+use Rattle.year.specs.SumsOf.{sumsAt, sumsIn}
 use Rattle.year.specs.Sound.{Sound, TermSound}
 use Rattle.year.specs.declared.Term.{Term}
 use Rattle.year.specs.declared.Sums.{Sums}
 use Rattle.year.specs.declared.Year.{Year}
 use Rattle.year.proofs.SumLaws.{counts-le, sums-read}
-use Rattle.totals.specs.Parts.{termIn, sumsIn}
 use Rattle.rules.specs.Step.{Step, overTerms}
 use Rattle.rules.specs.Round.{bounded}
 use Rattle.rules.specs.declared.Outcome.{Outcome}
 use Rattle.frame.specs.State.{held}
-use Rattle.frame.specs.Bounds.{boundsOf, withBounds, boundsOver}
+use Rattle.frame.specs.Bounds.{boundsOf, withBounds, boundsOver, termIn}
 use Rattle.frame.specs.declared.State.{State}
 use Rattle.frame.specs.declared.Bounds.{Bounds}
-use Rattle.frame.proofs.BoundsOnly.{Tightens, BoundsOnly, only-self, only-then, only-over, sums-same, lists-same}
+use Rattle.frame.proofs.BoundsOnly.{Tightens, BoundsOnly, only-self, only-then, only-over, sums-same}
 use Rattle.frame.proofs.BoundsOver.{bounds-over}
 
 -- every entry of a sound year's bounds is within the sizes
@@ -83,14 +82,12 @@ module _ (p : Step) (b : Bounds) (q : Step) (g : BoundsAt p b q) where
   pub at-end : (s : State) → s ≡ held p → withBounds s b ≡ held q
   at-end s e =
       let k = g .only in
-      let m = ap (λ (z : State). z .terms) e ∙ sym (k .narrower .terms-same) in
-      let n = ap (λ (z : State). z .courses) e ∙ sym (k .narrower .courses-same) in
-      let t = ap (λ (z : Bounds). z .term) (g .bounds-are) in
-      let l = ap (λ (z : State). z .list) e ∙ sym (lists-same (p .year) (q .year) k) in
-      let u = ap (λ (z : State). z .sums) e ∙ sym (sums-same (p .year) (q .year) k) in
-      let a = ap (λ (z : Bounds). z .altered) (g .bounds-are) in
-      let r = ap (λ (z : Bounds). z .rule) (g .bounds-are) in
-      λ i. record { terms = m i; courses = n i; term = t i; list = l i; sums = u i; altered = a i; rule = r i }
+      let m = sym (k .narrower .terms-same) in
+      let n = sym (k .narrower .courses-same) in
+      let l = sym (k .list-same) in
+      let u = sym (sums-same (p .year) (q .year) k) in
+      ap₂ withBounds e (g .bounds-are)
+      ∙ (λ i. record { terms = m i; courses = n i; term = q .year .term; list = l i; sums = u i; altered = q .altered; rule = q .rule })
 
 -- ---- what the rules ask of the sums
 

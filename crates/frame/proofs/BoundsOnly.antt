@@ -1,16 +1,13 @@
--- Years that differ in their bounds alone: a rule on bounds keeps the courses, and so the sums, the lists and all credits.
+-- Years that differ in their bounds alone: a rule on bounds keeps the courses, and so the sums and all credits.
 use Prim.Native.Nat.{ℕ, _≤_, _<_}
-use mathlib.Core.List.{List, []}
-use mathlib.Core.Path.{_≡_, refl, ap, ap₂, _∙_, fun-ext}
+use mathlib.Core.Path.{_≡_, refl, _∙_}
 use native.Mathlib.Omega.{arith}
 use Rattle.theory.specs.Tab.{tab}
 use Rattle.theory.proofs.FoldLaws.{fold-keeps}
 use Rattle.year.specs.Sums.{allCredits}
 use Rattle.year.specs.SumsOf.{sumsTo, sumsAt}
 use Rattle.year.specs.Sound.{Sound}
-use Rattle.year.specs.declared.Course.{Course}
 use Rattle.year.specs.declared.Year.{Year}
-use Rattle.totals.specs.Parts.{listsOf}
 use Rattle.rules.specs.Step.{Step, goes, then, overTo}
 use Rattle.rules.specs.Round.{bounded}
 use Rattle.rules.specs.declared.Outcome.{Outcome}
@@ -25,19 +22,19 @@ Tightens rule = AtTerms Narrows (bounded rule)
 -- z is y with tighter bounds
 pub record BoundsOnly (y z : Year) : Type 0 where
   pub narrower : Narrower y z
-  pub course-same : z .course ≡ y .course
+  pub list-same : z .list ≡ y .list
 
 pub only-self : (y : Year) → Sound y → BoundsOnly y y
-only-self y a = record { narrower = narrower-self y a; course-same = refl }
+only-self y a = record { narrower = narrower-self y a; list-same = refl }
 
 pub only-then : (x y z : Year) → BoundsOnly x y → BoundsOnly y z → BoundsOnly x z
-only-then x y z a b = record { narrower = narrower-then x y z (a .narrower) (b .narrower); course-same = b .course-same ∙ a .course-same }
+only-then x y z a b = record { narrower = narrower-then x y z (a .narrower) (b .narrower); list-same = b .list-same ∙ a .list-same }
 
 -- one term more
 pub only-next : (rule : Year → ℕ → Outcome) → Tightens rule → (y z : Year) (k : ℕ) → BoundsOnly y z → k < z .terms → BoundsOnly y (bounded rule z k .year)
 only-next rule law y z k b h = record {
   narrower = narrower-then y z (bounded rule z k .year) (b .narrower) (law z k (b .narrower .sound) h .year);
-  course-same = b .course-same;
+  list-same = b .list-same;
 }
 
 -- over the first m terms
@@ -50,18 +47,10 @@ only-over rule law s a m h =
 
 -- ---- what stays
 
--- a year that has these courses alone
-abbrev alone : List Course → Year
-alone cs = record { terms = 0; courses = 0; term = []; course = cs }
-
 module _ (y z : Year) (k : BoundsOnly y z) where
   pub sums-same : tab 16 (sumsAt z) ≡ tab 16 (sumsAt y)
   unfolding sumsAt
-  sums-same =
-      ap (tab 16) (fun-ext (λ j. ap₂ (λ (cs : List Course) (n : ℕ). sumsTo (alone cs) j n) (k .course-same) (k .narrower .courses-same)))
-
-  pub lists-same : listsOf z ≡ listsOf y
-  lists-same = ap (λ (cs : List Course). listsOf (alone cs)) (k .course-same)
+  sums-same = λ i. tab 16 (sumsTo (k .narrower .weight-same i) (k .list-same i) (k .narrower .courses-same i))
 
   pub credits-kept : allCredits z ≡ allCredits y
   credits-kept = credits-same y z (k .narrower .courses-same) (k .narrower .weight-same)

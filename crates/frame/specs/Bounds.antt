@@ -4,13 +4,33 @@ use Prim.Native.Nat.{ℕ}
 use mathlib.Core.Bool.{Bool, _||_}
 use mathlib.Core.List.{List}
 use lib.Dec.{eqb}
-use lib.ListN.{set}
+use lib.ListN.{getD, set}
 use Rattle.theory.specs.Fold.{fold}
+use Rattle.year.specs.Year.{zeroTerm}
 use Rattle.year.specs.declared.Term.{Term}
 use Rattle.rules.specs.Step.{Step}
 use Rattle.rules.specs.declared.Outcome.{Outcome}
 use Rattle.frame.specs.declared.State.{State}
 use Rattle.frame.specs.declared.Bounds.{Bounds}
+
+-- ---- entries of an array of terms
+
+abbrev pub termIn : List Term → ℕ → Term
+termIn t k = getD t k zeroTerm
+
+abbrev pub lowIn : List Term → ℕ → ℕ
+lowIn t k = termIn t k .low .0
+
+abbrev pub highIn : List Term → ℕ → ℕ
+highIn t k = termIn t k .high .0
+
+abbrev pub leastIn : List Term → ℕ → ℕ
+leastIn t k = termIn t k .least .0
+
+abbrev pub mostIn : List Term → ℕ → ℕ
+mostIn t k = termIn t k .most .0
+
+-- ---- a rule over them
 
 -- the bounds of a step
 abbrev pub boundsOf : Step → Bounds

@@ -1,10 +1,9 @@
--- A step of the rules as the code carries it: in parts, beside the sums of its terms, and without the weights w.
+-- A step of the rules as the code carries it: its year without the weights w, beside the sums of its terms.
 use mathlib.Core.List.{List}
 use Prim.Native.Nat.{ℕ}
 use Rattle.theory.specs.Tab.{tab}
 use Rattle.year.specs.SumsOf.{sumsAt}
 use Rattle.year.specs.declared.Year.{Year}
-use Rattle.totals.specs.Parts.{listsOf, yearFrom}
 use Rattle.rules.specs.Step.{Step, step}
 use Rattle.frame.specs.declared.State.{State}
 
@@ -14,7 +13,7 @@ held p = record {
   terms = p .year .terms;
   courses = p .year .courses;
   term = p .year .term;
-  list = listsOf (p .year);
+  list = p .year .list;
   sums = tab 16 (sumsAt (p .year));
   altered = p .altered;
   rule = p .rule;
@@ -22,7 +21,7 @@ held p = record {
 
 -- the year and the step in a state
 abbrev pub yearIn : List ℕ → State → Year
-yearIn w s = yearFrom (s .terms) (s .courses) (s .term) w (s .list)
+yearIn w s = record { terms = s .terms; courses = s .courses; term = s .term; weight = w; list = s .list }
 
 abbrev pub stepIn : List ℕ → State → Step
 stepIn w s = step (yearIn w s) (s .altered) (s .rule)

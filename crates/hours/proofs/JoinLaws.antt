@@ -10,7 +10,8 @@ use lib.Dec.{eqb, ltb}
 use lib.ListN.{length}
 use borrow.Author.Tests.{ltb-false, eqb-true, not-false}
 use Rattle.theory.proofs.TestLaws.{or-false}
-use Rattle.year.specs.Year.{termAt, courseAt, emptyYear}
+use Rattle.year.specs.Year.{termAt, courseAt}
+use Rattle.year.specs.Doors.{emptyYear}
 use Rattle.year.specs.Sound.{Sound}
 use Rattle.year.specs.declared.Term.{Term}
 use Rattle.year.specs.declared.Course.{Course}
@@ -38,36 +39,27 @@ pub record Terms (s : List ℕ) (k : ℕ) (y : Year) : Type 0 where
   pub begun : Begun y
   pub no-course : y .courses ≡ 0
   pub count : y .terms ≡ k
-  pub letters : (j : ℕ) → j < k → letterAt s (j * 16) ≡ 84
-  pub each : (j : ℕ) → j < k → TermHeld s (j * 16) (termAt y j)
+  pub each : (j : ℕ) → j < k → (letterAt s (j * 16) ≡ 84) × TermHeld s (j * 16) (termAt y j)
 
 terms-start : (s : List ℕ) → Terms s 0 blankYear
-terms-start s = record { begun = begun-blank; no-course = refl; count = refl; letters = λ j h. absurd (omega arith); each = λ j h. absurd (omega arith) }
+terms-start s = record { begun = begun-blank; no-course = refl; count = refl; each = λ j h. absurd (omega arith) }
 
 terms-term : (s : List ℕ) (k : ℕ) (y : Year) (t : Term) → Terms s k y → termEntry s k y ≡ OfTerm t → Terms s (suc k) (addTerm y t)
 terms-term s k y t p e = record {
-  begun = begun-term y t (p .begun) (r .room) (rw (sym (r .held .holds)) (r .held .sound)) (p .no-course);
+  begun = begun-term y t (p .begun) (r .1 .room) (rw (sym (r .1 .held .holds)) (r .1 .held .sound)) (p .no-course);
   no-course = p .no-course;
   count = omega (arith, p .count);
-  letters = λ j h. letter j h (ℕ-discrete j k);
   each = λ j h. at j h (ℕ-discrete j k);
 }
   where
-    taken : (letterAt s (k * 16) ≡ 84) × TermRead s (k * 16) (y .terms) t
-    taken = alone-read s (k * 16) (y .terms) t (of-term (termAlone s (k * 16) (y .terms)) t e)
+    r : (letterAt s (k * 16) ≡ 84) × TermRead s (k * 16) (y .terms) t
+    r = alone-read s (k * 16) (y .terms) t (of-term (termAlone s (k * 16) (y .terms)) t e)
 
-    r : TermRead s (k * 16) (y .terms) t
-    r = taken .1
-
-    letter : (j : ℕ) → j < suc k → Dec (j ≡ k) → letterAt s (j * 16) ≡ 84
-    letter j h (yes q) = rw q (taken .0)
-    letter j h (no d) = p .letters j (omega (arith, d))
-
-    at : (j : ℕ) → j < suc k → Dec (j ≡ k) → TermHeld s (j * 16) (termAt (addTerm y t) j)
-    at j h (yes q) = rw (term-added y t (p .begun) (r .room) j (q ∙ sym (p .count)), q) (r .held)
+    at : (j : ℕ) → j < suc k → Dec (j ≡ k) → (letterAt s (j * 16) ≡ 84) × TermHeld s (j * 16) (termAt (addTerm y t) j)
+    at j h (yes q) = rw (term-added y t (p .begun) (r .1 .room) j (q ∙ sym (p .count)), q) (r .0, r .1 .held)
     at j h (no d) =
         let other : j ≡ y .terms → ⊥ = λ q. d (q ∙ p .count) in
-        rw (term-before y t (p .begun) (r .room) j other) (p .each j (omega (arith, d)))
+        rw (term-before y t (p .begun) (r .1 .room) j other) (p .each j (omega (arith, d)))
 
 terms-course : (s : List ℕ) (k : ℕ) (y : Year) (c : Course) → Terms s k y → termEntry s k y ≡ OfCourse c → Terms s (suc k) (addCourse y c)
 terms-course s k y c p e = absurd (term-no-course (termAlone s (k * 16) (y .terms)) c e)
@@ -215,7 +207,7 @@ joint t h = go (joinOf t h) (ends t h)
           sound = begun-sound z (q .0 .begun) (omega (arith, r .1, many));
           term-bytes = ap (λ (n : ℕ). n * 16) many ∙ r .2;
           course-bytes = ap (λ (n : ℕ). n * 16) (q .0 .count) ∙ q .2;
-          each-term = λ j l. rw (q .1 .1) (r .0 .each j (omega (arith, many)));
+          each-term = λ j l. rw (q .1 .1) (r .0 .each j (omega (arith, many)) .1);
           each-course = λ i l. rw (q .1 .0) (q .0 .each i (omega (arith, q .0 .count)));
         }
 

@@ -44,7 +44,7 @@ terms-as-read s no-course =
 pub terms-read : (s : List ℕ) → termList s .answer ≡ reading.Done → readList s ≡ done (termList s .year)
 terms-read s e =
     let r = terms-done s e in
-    sym (terms-as-read s (λ k l c. omega (arith, r .0 .letters k l))) ∙ is-done (termList s) e
+    sym (terms-as-read s (λ k l c. omega (arith, r .0 .each k l .0))) ∙ is-done (termList s) e
 
 -- an answer of the terms' list alone
 abbrev pub inTerms : Reading → Joining

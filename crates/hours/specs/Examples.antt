@@ -4,7 +4,8 @@ use Prim.Native.Nat.{ℕ, _/_, _%_}
 use mathlib.Core.List.{List, [], _∷_, _++_}
 use mathlib.Core.Path.{_≡_, refl}
 use lib.ListN.{take, replicate, set}
-use Rattle.year.specs.Year.{emptyYear, weight}
+use Rattle.year.specs.Doors.{emptyYear}
+use Rattle.year.specs.Year.{weight}
 use Rattle.year.specs.Examples.{yearE}
 use Rattle.records.specs.Writing.{joined}
 use Rattle.records.specs.Examples.{padded, firstTerm, plainTerm, plainCourse, bytesE}

@@ -61,7 +61,8 @@ fn read_hours(y: Year, s: &[u8]) -> Received
         match entries::hours_record(s, k * RECORD, z.courses, z.terms) {
             AsCourse::Good(c) => {
                 let i = z.courses;
-                z.course[i] = c;
+                z.weight[i] = c.weight.0;
+                z.list[i] = c.list;
                 z.courses = i + 1;
             }
             AsCourse::Faulty(f) => {

@@ -1,22 +1,21 @@
 -- The courses of a term, one after the other: what the steps leave alone, and what the code carries along.
 use Prim.Native.Nat.{ℕ, zero, suc, _+_, _-_, _^_, _≤_, _<_}
-use mathlib.Core.Bool.{Bool, true, false, or-true, or-false, true≢false}
-use mathlib.Core.Path.{_≡_, refl, sym, ap, ap₂, _∙_, subst}
+use mathlib.Core.Bool.{Bool, true, false, _||_, or-true, or-false}
+use mathlib.Core.Path.{_≡_, refl, sym, ap, _∙_, subst}
 use native.Mathlib.Omega.{arith}
-use lib.ListN.{length, set}
+use lib.ListN.{set}
 use Rattle.theory.specs.Fold.{fold}
 use Rattle.theory.proofs.BitLaws.{has-le}
-use Rattle.theory.proofs.TabLaws.{set-tab}
-use Rattle.year.specs.Year.{termAt, courseAt, weight, list, isOpen, withList, placed, struck}
+use Rattle.year.specs.Year.{courseOf, termAt, courseAt, weight, list, isOpen}
+use Rattle.year.specs.Doors.{withList, placed, struck}
 use Rattle.year.specs.Sums.{fixedCredits, possibleCredits}
-use Rattle.totals.specs.Parts.{listsOf}
 use Rattle.year.specs.Sound.{Sound}
 use Rattle.year.specs.declared.Course.{Course}
 use Rattle.year.specs.declared.Term.{Term}
 use Rattle.year.specs.declared.Year.{Year}
-use Rattle.year.proofs.DoorLaws.{course-same, course-other}
+use Rattle.year.proofs.DoorLaws.{list-other}
 use Rattle.year.proofs.SumLaws.{possible-le, all-credits-le}
-use Rattle.rules.specs.Step.{goes, then, live, judged, next, overTo, Step, joined}
+use Rattle.rules.specs.Step.{goes, then, step, live, judged, next, overTo, Step, joined}
 use Rattle.theory.proofs.FoldLaws.{fold-more}
 use Rattle.rules.specs.Lists.{verdict3, rule3Course, verdict10, rule10Course}
 use Rattle.rules.specs.declared.Verdict.{Verdict}
@@ -31,14 +30,8 @@ use Rattle.lists.proofs.SumsAfter.{is-listed as lists-it, weight-le, st
 
 -- ---- a year's lists with its p and P
 
-pub carried-is : (k : Carried) (y : Year) (a : Bool) (j : ℕ) → k .list ≡ listsOf y → k .fixed .0 ≡ fixedCredits y j → k .possible .0 ≡ possibleCredits y j → k .altered ≡ a → k ≡ carried y a j
+pub carried-is : (k : Carried) (y : Year) (a : Bool) (j : ℕ) → k .list ≡ y .list → k .fixed .0 ≡ fixedCredits y j → k .possible .0 ≡ possibleCredits y j → k .altered ≡ a → k ≡ carried y a j
 carried-is k y a j p q r t = λ n. record { list = p n; fixed = record { 0 = q n }; possible = record { 0 = r n }; altered = t n }
-
--- another list of course i
-lists-after : (y : Year) (i l : ℕ) → i < length (y .course) → set (listsOf y) i l ≡ listsOf (withList y i l)
-lists-after y i l h =
-    ap (set (listsOf y) i) (sym (ap (λ (c : Course). c .list) (course-same y i l h)))
-    ∙ set-tab 64 (list y) (list (withList y i l)) 0 i (λ k m ne. ap (λ (c : Course). c .list) (sym (course-other y i l k ne)))
 
 -- with one course more, p stays within its size
 pub small : (y : Year) (i j : ℕ) → Sound y → i < y .courses → fixedCredits y j + weight y i ≤ 65000
@@ -77,36 +70,28 @@ lawful (NoPlan r) terms courses j l = λ z k s t c h. narrows-rest z 0 s
 
 -- ---- the first n courses
 
--- no plan is never found, no term is altered, nor a course from n on; and nothing is where the mark says so
+-- no plan is never found, no term is altered, nor a course from n on
 pub record Onward (y : Year) (n : ℕ) (s : Step) : Type 0 where
   pub goes-on : s .rule ≡ 0
   pub term-same : s .year .term ≡ y .term
   pub course-same : (i : ℕ) → n ≤ i → courseAt (s .year) i ≡ courseAt y i
-  pub quiet : s .altered ≡ false → s .year ≡ y
+
+-- course n with another list
+onward-listed : (y : Year) (n l : ℕ) (s : Step) → Onward y n s → Onward y (suc n) (step (withList (s .year) n l) (s .altered || true) 0)
+onward-listed y n l s o = record {
+  goes-on = refl;
+  term-same = o .term-same;
+  course-same = λ i h. ap (courseOf (weight (s .year) i)) (list-other (s .year) n l i (λ q. absurd (omega arith))) ∙ o .course-same i (omega arith);
+}
 
 onward-judged : (y : Year) (n j : ℕ) (s : Step) (v : Verdict) → Onward y n s → Onward y (suc n) (joined s (judged (s .year) n j v))
-onward-judged y n j s Stays o = record {
-  goes-on = refl;
-  term-same = o .term-same;
-  course-same = λ i h. o .course-same i (omega arith);
-  quiet = λ e. o .quiet (sym (or-false (s .altered)) ∙ e);
-}
-onward-judged y n j s Struck o = record {
-  goes-on = refl;
-  term-same = o .term-same;
-  course-same = λ i h. course-other (s .year) n _ i (λ q. absurd (omega arith)) ∙ o .course-same i (omega arith);
-  quiet = λ e. absurd (true≢false (sym (or-true (s .altered)) ∙ e));
-}
-onward-judged y n j s Fixed o = record {
-  goes-on = refl;
-  term-same = o .term-same;
-  course-same = λ i h. course-other (s .year) n _ i (λ q. absurd (omega arith)) ∙ o .course-same i (omega arith);
-  quiet = λ e. absurd (true≢false (sym (or-true (s .altered)) ∙ e));
-}
+onward-judged y n j s Stays o = record { goes-on = refl; term-same = o .term-same; course-same = λ i h. o .course-same i (omega arith) }
+onward-judged y n j s Struck o = onward-listed y n _ s o
+onward-judged y n j s Fixed o = onward-listed y n _ s o
 
 pub onward : (w : TermVerdict) (j : ℕ) (y : Year) (n : ℕ) → Onward y n (overTo (courseJudged w j) (live y) n)
 unfolding fold
-onward w j y zero = record { goes-on = refl; term-same = refl; course-same = λ i h. refl; quiet = λ e. refl }
+onward w j y zero = record { goes-on = refl; term-same = refl; course-same = λ i h. refl }
 onward w j y (suc n) =
     let s = overTo (courseJudged w j) (live y) n in
     let o = onward w j y n in
@@ -150,6 +135,9 @@ module _ (w : TermVerdict) (y : Year) (j i : ℕ) (k : Carried) (c : Course) (so
   course : c ≡ courseAt (s .year) i
   course = is ∙ sym (o .course-same i (omega arith))
 
+  list-is : k .list ≡ s .year .list
+  list-is = ap (λ (z : Carried). z .list) inv
+
   fixed-is : k .fixed .0 ≡ fixedCredits (s .year) j
   fixed-is = ap (λ (z : Carried). z .fixed .0) inv
 
@@ -166,9 +154,6 @@ module _ (w : TermVerdict) (y : Year) (j i : ℕ) (k : Carried) (c : Course) (so
   is-open : (v ≡ Stays → ⊥) → isOpen (courseAt (s .year) i) j ≡ true
   is-open d = rw course at (verdict-open w c (termAt y j) (k .fixed .0) (k .possible .0) j d)
 
-  list-is : (l : ℕ) → set (k .list) i l ≡ listsOf (withList (s .year) i l)
-  list-is l = ap (λ (z : Carried). set (z .list) i l) inv ∙ lists-after (s .year) i l (omega (arith, narrows .year .sound))
-
   struck-open : v ≡ Struck → isOpen (courseAt (s .year) i) j ≡ true
   struck-open e = is-open (λ q. let z : _≡_ {A = ℕ} 0 1 = cc in omega arith)
 
@@ -183,15 +168,15 @@ module _ (w : TermVerdict) (y : Year) (j i : ℕ) (k : Carried) (c : Course) (so
     is-possible = λ e. rw (course, possible-is) (weight-le (s .year) i j (narrows .year .sound) inside (struck-open e));
     strikes = λ e p q.
         carried-is _ (struck (s .year) i j) _ j
-        (ap₂ (λ (x : Course) l. set (k .list) i (x .list - l)) course q ∙ list-is (list (s .year) i - 2 ^ j))
+        (λ n. set (list-is n) i (course n .list - q n))
         (fixed-is ∙ sym (struck-fixed (s .year) i j (narrows .year .sound) inside (struck-open e)))
-        (ap₂ (λ p (x : Course). p - x .weight .0) possible-is course ∙ sym (struck-possible (s .year) i j (narrows .year .sound) inside (struck-open e)))
+        ((λ n. possible-is n - course n .weight .0) ∙ sym (struck-possible (s .year) i j (narrows .year .sound) inside (struck-open e)))
         (sym (or-true (s .altered)))
         ∙ after Struck e;
     fixes = λ e p q.
         carried-is _ (placed (s .year) i j) _ j
-        (ap (set (k .list) i) q ∙ list-is (2 ^ j))
-        (ap₂ (λ p (x : Course). p + x .weight .0) fixed-is course ∙ sym (placed-fixed (s .year) i j (narrows .year .sound) inside (fixed-open e)))
+        (λ n. set (list-is n) i (q n))
+        ((λ n. fixed-is n + course n .weight .0) ∙ sym (placed-fixed (s .year) i j (narrows .year .sound) inside (fixed-open e)))
         (possible-is ∙ sym (placed-possible (s .year) i j (narrows .year .sound) inside (fixed-open e)))
         (sym (or-true (s .altered)))
         ∙ after Fixed e;

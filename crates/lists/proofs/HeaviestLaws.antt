@@ -16,10 +16,9 @@ use Rattle.theory.specs.Bits.{has}
 use Rattle.theory.proofs.BitLaws.{has-le, has-some, has-struck, has-power}
 use Rattle.theory.specs.Tab.{tab}
 use Rattle.theory.proofs.TabLaws.{getD-tab, tab-cong}
-use Rattle.year.specs.Year.{zeroCourse, courseAt, weight, list, lists, isFixed, isOpen}
+use Rattle.year.specs.Year.{courseIn, courseAt, weight, list, lists, isFixed, isOpen}
 use Rattle.year.specs.Sums.{openWeight}
 use Rattle.year.specs.Sound.{Sound}
-use Rattle.year.specs.declared.Course.{Course}
 use Rattle.year.specs.declared.Credits.{Credits}
 use Rattle.year.specs.declared.Year.{Year}
 use Rattle.rules.specs.Step.{Step}
@@ -34,30 +33,29 @@ pub larger-second : (b : Bool) (heaviest w : ℕ) → b && ltb heaviest w ≡ fa
 larger-second true heaviest w e = omega (arith, ltb-false heaviest w e)
 larger-second false heaviest w e = omega arith
 
-pub heaviest-more : (cs : List Course) (n j : ℕ) → heaviestTo cs (n + 1) j ≡ max (heaviestTo cs n j) (pick (isOpen (getD cs n zeroCourse) j) (getD cs n zeroCourse .weight .0))
-unfolding heaviestTo
-heaviest-more cs n j = rw add-one
+module _ (w l : List ℕ) where
+  heaviest-more : (n j : ℕ) → heaviestTo w l (n + 1) j ≡ max (heaviestTo w l n j) (openWeight w l j n)
+  unfolding heaviestTo
+  heaviest-more n j = rw add-one
 
-pub heaviest-all-more : (cs : List Course) (n : ℕ) → tab 16 (heaviestWith (tab 16 (heaviestIn cs n)) (getD cs n zeroCourse)) ≡ tab 16 (heaviestIn cs (n + 1))
-heaviest-all-more cs n =
-    let c = getD cs n zeroCourse in
-    tab-cong 16 (heaviestWith (tab 16 (heaviestIn cs n)) c) (heaviestIn cs (n + 1))
-    (λ k h.
-    let e = ap (λ (x : Credits). max (x .0) (pick (isOpen c k) (c .weight .0))) (getD-tab 16 (heaviestIn cs n) (record { 0 = 0 }) k h) ∙ sym (heaviest-more cs n k) in
-    λ i. record { 0 = e i })
+  pub heaviest-all-more : (n : ℕ) → tab 16 (heaviestWith (tab 16 (heaviestIn w l n)) (courseIn w l n)) ≡ tab 16 (heaviestIn w l (n + 1))
+  heaviest-all-more n =
+      tab-cong 16 (heaviestWith (tab 16 (heaviestIn w l n)) (courseIn w l n)) (heaviestIn w l (n + 1))
+      (λ k h.
+      let e = ap (λ (x : Credits). max (x .0) (openWeight w l k n)) (getD-tab 16 (heaviestIn w l n) (record { 0 = 0 }) k h) ∙ sym (heaviest-more n k) in
+      λ i. record { 0 = e i })
 
--- ---- what it bounds
+  -- it bounds every open course
+  pub heaviest-bounds : (n j i : ℕ) → i < n → openWeight w l j i ≤ heaviestTo w l n j
+  unfolding heaviestTo
+  heaviest-bounds zero j i h = absurd (omega arith)
+  heaviest-bounds (suc n) j i h = go (ℕ-discrete i n) (λ q. heaviest-bounds n j i q)
+    where
+      go : Dec (i ≡ n) → (i < n → openWeight w l j i ≤ heaviestTo w l n j) → openWeight w l j i ≤ heaviestTo w l (suc n) j
+      go (yes e) ih = rw e (omega arith)
+      go (no d) ih = omega (arith, ih (omega arith))
 
-pub heaviest-bounds : (y : Year) (n j i : ℕ) → i < n → openWeight y j i ≤ heaviestTo (y .course) n j
-unfolding heaviestTo
-heaviest-bounds y zero j i h = absurd (omega arith)
-heaviest-bounds y (suc n) j i h = go (ℕ-discrete i n) (λ q. heaviest-bounds y n j i q)
-  where
-    go : Dec (i ≡ n) → (i < n → openWeight y j i ≤ heaviestTo (y .course) n j) → openWeight y j i ≤ heaviestTo (y .course) (suc n) j
-    go (yes e) ih = rw e (omega arith)
-    go (no d) ih = omega (arith, ih (omega arith))
-
-pub heaviest-most : (y : Year) (n j : ℕ) → Sound y → n ≤ y .courses → heaviestTo (y .course) n j ≤ 1000
+pub heaviest-most : (y : Year) (n j : ℕ) → Sound y → n ≤ y .courses → heaviestTo (y .weight) (y .list) n j ≤ 1000
 unfolding heaviestTo
 heaviest-most y zero j s h = omega arith
 heaviest-most y (suc n) j s h =
@@ -80,9 +78,9 @@ module _ (y : Year) (t : Step) (w : Narrows y t) (i j : ℕ) (h : i < y .courses
       true≢false (sym (other .1) ∙ ap not k) in
       and-of (lists (courseAt y i) j) (not (isFixed (courseAt y i) j)) (w .year .lists-less i j listed) (ap not (ne-eqb (list y i) (2 ^ j) not-alone))
 
-  pub open-less : openWeight (t .year) j i ≤ openWeight y j i
+  pub open-less : openWeight (t .year .weight) (t .year .list) j i ≤ openWeight (y .weight) (y .list) j i
   open-less = go (isOpen (courseAt (t .year) i) j) refl
     where
-      go : (b : Bool) → isOpen (courseAt (t .year) i) j ≡ b → pick b (weight (t .year) i) ≤ openWeight y j i
-      go true e = rw (was-open e) (omega (arith, w .year .weight-same i))
+      go : (b : Bool) → isOpen (courseAt (t .year) i) j ≡ b → pick b (weight (t .year) i) ≤ openWeight (y .weight) (y .list) j i
+      go true e = rw (was-open e) (omega (arith, ap (λ v. getD v i 0) (w .year .weight-same)))
       go false e = omega arith

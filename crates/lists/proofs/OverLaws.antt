@@ -12,7 +12,7 @@ use Rattle.theory.specs.Choice.{choose}
 use Rattle.theory.proofs.FoldLaws.{fold-more, fold-keeps, fold-finish, fold-none}
 use Rattle.theory.specs.Tab.{tab}
 use Rattle.theory.proofs.TabLaws.{getD-tab}
-use Rattle.year.specs.Year.{zeroTerm, termAt, weight, lowCredits}
+use Rattle.year.specs.Year.{zeroTerm, termAt, lowCredits}
 use Rattle.year.specs.Sums.{openWeight, fixedCredits, fixedCount, openCount}
 use Rattle.year.specs.SumsOf.{sumsAt, noSums}
 use Rattle.year.specs.Sound.{Sound}
@@ -34,7 +34,7 @@ use Rattle.lists.specs.declared.TermVerdict.{TermVerdict}
 use Rattle.lists.specs.declared.TermVerdict.the-variants.{Nothing, ByCredits, ByCounts, NoPlan}
 use Rattle.lists.proofs.CourseLaws.{onward}
 use Rattle.lists.proofs.HeaviestLaws.{heaviest-most, heaviest-bounds, open-less}
-use Rattle.lists.proofs.TermLaws.{step-is, weights-stay, nothing-is, credits-is, rule-3-is, rule-10-is}
+use Rattle.lists.proofs.TermLaws.{step-is, nothing-is, credits-is, rule-3-is, rule-10-is}
 
 -- ---- a rule on lists
 
@@ -82,7 +82,7 @@ went-on rule s j e = go (eqb (s .rule) 0) refl
 
 -- w is what the rule says of the term
 pub record TermTurn (rule : Year → ℕ → Step) (ws : List ℕ) (s z : State) (j : ℕ) (w : TermVerdict) : Type 0 where
-  pub ready : (j < z .terms) × (Sound (yearIn ws z)) × (z ≡ held (stepIn ws z)) × (z .rule ≡ 0)
+  pub ready : (j < z .terms) × ((Sound (yearIn ws z)) × ((z ≡ held (stepIn ws z)) × (z .rule ≡ 0)))
   pub says-nothing : w ≡ Nothing → z ≡ held (overTo rule (stepIn ws s) (j + 1))
   pub is-judged : held (next (termJudged w) (stepIn ws z) j) ≡ held (overTo rule (stepIn ws s) (j + 1))
 
@@ -103,8 +103,8 @@ module _ (rule : Year → ℕ → Step) (l : OnLists rule) (ws : List ℕ) (s : 
   sound-same : Sound (p .year)
   sound-same = rw year-same (narrows-at .year .sound)
 
-  weights-same : (i : ℕ) → i < 64 → getD ws i 0 ≡ weight (p .year) i
-  weights-same i m = rw year-same (weights-stay ws s t narrows-at i m)
+  weights-same : ws ≡ p .year .weight
+  weights-same = rw year-same (sym (narrows-at .year .weight-same))
 
   step-at : stepIn ws z ≡ p
   step-at = step-held ws p sound-same weights-same z inv
@@ -129,7 +129,7 @@ module _ (rule : Year → ℕ → Step) (l : OnLists rule) (ws : List ℕ) (s : 
 
   turn-at : z .rule ≡ 0 → (w : TermVerdict) → rule (yearIn ws z) j ≡ termJudged w (yearIn ws z) j → TermTurn rule ws s z j w
   turn-at going w is = record {
-    ready = (omega (arith, ap (λ (y : Year). y .terms) year-at, narrows-at .year .terms-same), sound-at, held-at, going);
+    ready = (omega (arith, ap (λ (y : Year). y .terms) year-at, narrows-at .year .terms-same), (sound-at, (held-at, going)));
     says-nothing = λ q.
         let still : rule (yearIn ws z) j ≡ live (yearIn ws z) = is ∙ ap (λ v. termJudged v (yearIn ws z) j) q ∙ nothing-is (yearIn ws z) j in
         let quiet : stepIn ws z ≡ next rule (stepIn ws z) j = rw (going, still) (step-is refl (sym (or-false (z .altered))) refl) in
@@ -164,9 +164,9 @@ module _ (ws : List ℕ) (s : State) (sound : Sound (yearIn ws s)) (alive : s .r
   turn-3 w q =
       let v = narrows-at rule3 lists-3 ws s sound alive j h z inv in
       let y = year-at rule3 lists-3 ws s sound alive j h z inv in
-      let bound : (i : ℕ) → i < z .courses → openWeight (yearIn ws z) j i ≤ getD heaviest j (record { 0 = 0 }) .0 = λ i m.
+      let bound : (i : ℕ) → i < z .courses → openWeight ws (z .list) j i ≤ getD heaviest j (record { 0 = 0 }) .0 = λ i m.
       let n : i < s .courses = omega (arith, v .year .courses-same, ap (λ (x : Year). x .courses) y) in
-      omega (arith, ap (λ (x : Year). openWeight x j i) y, heaviest-at, open-less (yearIn ws s) _ v i j n, heaviest-bounds (yearIn ws s) (s .courses) j i n) in
+      omega (arith, ap (λ (x : Year). openWeight (x .weight) (x .list) j i) y, heaviest-at, open-less (yearIn ws s) _ v i j n, heaviest-bounds ws (s .list) (s .courses) j i n) in
       let read : w ≡ termVerdict3 (termAt (yearIn ws z) j) (sumsAt (yearIn ws z) j) (getD heaviest j (record { 0 = 0 }) .0) =
       q ∙ ap₂ (λ t u. termVerdict3 t u (getD heaviest j (record { 0 = 0 }) .0)) (term-at rule3 lists-3 ws s sound alive j h z inv) (sums-at rule3 lists-3 ws s sound alive j h z inv) in
       turn-at rule3 lists-3 ws s sound alive j h z inv (ap (λ (x : State). x .rule) inv ∙ alive-3 (stepIn ws s) alive j) w

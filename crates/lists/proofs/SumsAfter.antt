@@ -5,38 +5,36 @@ use mathlib.Core.Path.{_≡_, refl, sym, ap, _∙_}
 use native.Mathlib.Omega.{arith}
 use lib.Dec.{eqb}
 use borrow.Author.Tests.{eq-eqb, ne-eqb}
-use Rattle.theory.specs.Sum.{pick}
+use Rattle.theory.specs.Sum.{pick, sum}
 use Rattle.theory.proofs.SumLaws.{sum-change, sum-term-le}
 use Rattle.theory.proofs.TestLaws.{and-true}
 use Rattle.theory.specs.Bits.{has}
 use Rattle.theory.proofs.BitLaws.{has-struck, has-power}
-use Rattle.year.specs.Year.{courseAt, weight, list, lists, isFixed, isOpen, withList, placed, struck}
+use Rattle.year.specs.Year.{courseAt, weight, list, lists, isFixed, isOpen}
+use Rattle.year.specs.Doors.{withList, placed, struck}
 use Rattle.year.specs.Sums.{fixedWeight, openWeight, fixedCredits, openCredits, possibleCredits}
 use Rattle.year.specs.Sound.{Sound}
-use Rattle.year.specs.declared.Course.{Course}
 use Rattle.year.specs.declared.Year.{Year}
-use Rattle.year.proofs.DoorLaws.{course-same, course-other}
+use Rattle.year.proofs.DoorLaws.{list-same, list-other}
 
 -- ---- any list l for course i
 
-abbrev fixedPart : Course → ℕ → ℕ
-fixedPart c j = pick (isFixed c j) (c .weight .0)
-
-abbrev openPart : Course → ℕ → ℕ
-openPart c j = pick (isOpen c j) (c .weight .0)
+-- what is summed is f of a course's list and its weight
+sum-after : (y : Year) (i l : ℕ) → Sound y → i < y .courses → (f : ℕ → ℕ → ℕ)
+    → sum (y .courses) (λ k. f (list (withList y i l) k) (weight y k)) + f (list y i) (weight y i) ≡ sum (y .courses) (λ k. f (list y k) (weight y k)) + f l (weight y i)
+sum-after y i l s h f =
+    let new = ap (λ x. f x (weight y i)) (list-same y i l (omega (arith, s))) in
+    let old = sum-change (y .courses) i (λ k. f (list (withList y i l) k) (weight y k)) (λ k. f (list y k) (weight y k)) h (λ k m ne. ap (λ x. f x (weight y k)) (list-other y i l k ne)) in
+    omega (arith, new, old)
 
 module _ (y : Year) (i l j : ℕ) (s : Sound y) (h : i < y .courses) where
-  fixed-after : fixedCredits (withList y i l) j + fixedWeight y j i ≡ fixedCredits y j + pick (eqb l (2 ^ j)) (weight y i)
+  fixed-after : fixedCredits (withList y i l) j + fixedWeight (y .weight) (y .list) j i ≡ fixedCredits y j + pick (eqb l (2 ^ j)) (weight y i)
   unfolding fixedCredits
-  fixed-after =
-      let new : fixedWeight (withList y i l) j i ≡ pick (eqb l (2 ^ j)) (weight y i) = ap (λ (c : Course). fixedPart c j) (course-same y i l (omega (arith, s))) in
-      omega (arith, sum-change (y .courses) i (fixedWeight (withList y i l) j) (fixedWeight y j) h (λ k m ne. ap (λ (c : Course). fixedPart c j) (course-other y i l k ne)))
+  fixed-after = sum-after y i l s h (λ x w. pick (eqb x (2 ^ j)) w)
 
-  open-after : openCredits (withList y i l) j + openWeight y j i ≡ openCredits y j + pick (has l j && not (eqb l (2 ^ j))) (weight y i)
+  open-after : openCredits (withList y i l) j + openWeight (y .weight) (y .list) j i ≡ openCredits y j + pick (has l j && not (eqb l (2 ^ j))) (weight y i)
   unfolding openCredits
-  open-after =
-      let new : openWeight (withList y i l) j i ≡ pick (has l j && not (eqb l (2 ^ j))) (weight y i) = ap (λ (c : Course). openPart c j) (course-same y i l (omega (arith, s))) in
-      omega (arith, sum-change (y .courses) i (openWeight (withList y i l) j) (openWeight y j) h (λ k m ne. ap (λ (c : Course). openPart c j) (course-other y i l k ne)))
+  open-after = sum-after y i l s h (λ x w. pick (has x j && not (eqb x (2 ^ j))) w)
 
 -- ---- a course that is open in j
 
@@ -47,15 +45,15 @@ module _ (y : Year) (i j : ℕ) (s : Sound y) (h : i < y .courses) (e : isOpen (
   pub not-alone : list y i ≡ 2 ^ j → ⊥
   not-alone q = true≢false (sym (and-true (lists (courseAt y i) j) (not (isFixed (courseAt y i) j)) e .1) ∙ ap not (eq-eqb (list y i) (2 ^ j) q))
 
-  not-fixed : fixedWeight y j i ≡ 0
+  not-fixed : fixedWeight (y .weight) (y .list) j i ≡ 0
   not-fixed = ap (λ b. pick b (weight y i)) (ne-eqb (list y i) (2 ^ j) not-alone)
 
-  is-open : openWeight y j i ≡ weight y i
+  is-open : openWeight (y .weight) (y .list) j i ≡ weight y i
   is-open = ap (λ b. pick b (weight y i)) e
 
   pub weight-le : weight y i ≤ possibleCredits y j
   unfolding openCredits
-  weight-le = omega (arith, is-open, sum-term-le (y .courses) i (openWeight y j) h)
+  weight-le = omega (arith, is-open, sum-term-le (y .courses) i (openWeight (y .weight) (y .list) j) h)
 
   -- j struck: neither fixed nor open there
   gone : has (list y i - 2 ^ j) j ≡ false

@@ -1,53 +1,39 @@
 -- A term of rules 3 and 10 under its verdict: what the code makes of it is what the rule does there.
-use Prim.Native.Nat.{ℕ, zero, suc, _+_, _-_, _^_, _≤_, _<_}
+use Prim.Native.Nat.{ℕ, zero, suc, _+_, _-_, _≤_, _<_}
 use mathlib.Core.Bool.{Bool, true, false, _&&_, _||_, or-true, or-false}
 use mathlib.Core.List.{List}
 use mathlib.Core.Path.{_≡_, refl, sym, ap, subst, _∙_}
 use native.Mathlib.Nat.{le-refl}
 use native.Mathlib.Omega.{arith}
 use lib.Dec.{leb, ltb}
-use lib.ListN.{length, getD}
 use borrow.Author.Tests.{le-ltb, leb-true, ltb-false}
 use Rattle.theory.specs.Fold.{fold}
 use Rattle.theory.specs.Choice.{choose}
 use Rattle.theory.proofs.ChoiceLaws.{choose-any}
-use Rattle.theory.specs.Sum.{pick, sum}
-use Rattle.theory.proofs.SumLaws.{sum-term-le}
 use Rattle.theory.specs.Tab.{tab}
-use Rattle.theory.proofs.TabLaws.{length-tab}
 use Rattle.year.specs.Year.{termAt, courseAt, weight, isOpen, lowCredits, highCredits, lowCount, highCount}
-use Rattle.year.specs.Sums.{openWeight, fixedCredits, openCredits, possibleCredits, openOne, fixedCount, openCount}
+use Rattle.year.specs.Sums.{openWeight, fixedCredits, openCredits, possibleCredits, fixedCount, openCount}
 use Rattle.year.specs.SumsOf.{sumsTo, sumsAt}
-use Rattle.totals.specs.Parts.{listsOf, coursesOnly, yearFrom}
 use Rattle.year.specs.Sound.{Sound}
-use Rattle.year.specs.declared.Course.{Course}
 use Rattle.year.specs.declared.Sums.{Sums}
 use Rattle.year.specs.declared.Year.{Year}
-use Rattle.totals.proofs.PartLaws.{course-in, year-is, weight-fits, list-fits}
+use Rattle.year.proofs.SumLaws.{none-open}
 use Rattle.rules.specs.Step.{live, dead, judged, next, overTo, overCourses, Step, joined}
 use Rattle.frame.specs.State.{held, yearIn, stepIn}
 use Rattle.rules.specs.Lists.{verdict3, rule3Course, rule3, full, needed, verdict10, rule10Course, rule10}
 use Rattle.frame.specs.declared.State.{State}
 use Rattle.rules.specs.declared.Verdict.the-variants.{Stays}
 use Rattle.rules.proofs.Narrows.{Narrows, narrows-rest, narrows-over}
-use Rattle.frame.proofs.StateLaws.{sums-in}
+use Rattle.frame.proofs.StateLaws.{sums-held}
 use Rattle.lists.specs.TermVerdict.{carriedOf, courseJudged, termVerdict3, termVerdict10, termJudged}
 use Rattle.lists.specs.declared.TermVerdict.{TermVerdict}
 use Rattle.lists.specs.declared.TermVerdict.the-variants.{Nothing, ByCredits, ByCounts, NoPlan}
 use Rattle.lists.specs.declared.Carried.{Carried}
 use Rattle.lists.proofs.CourseLaws.{lawful, Onward, onward}
 
--- ---- states and steps are their parts
-
-state-is : {r t : State} → r .terms ≡ t .terms → r .courses ≡ t .courses → r .term ≡ t .term → r .list ≡ t .list → r .sums ≡ t .sums → r .altered ≡ t .altered → r .rule ≡ t .rule → r ≡ t
-state-is a b c d e f g = λ i. record { terms = a i; courses = b i; term = c i; list = d i; sums = e i; altered = f i; rule = g i }
-
+-- a step is its parts
 pub step-is : {s t : Step} → s .year ≡ t .year → s .altered ≡ t .altered → s .rule ≡ t .rule → s ≡ t
 step-is p q r = λ i. record { year = p i; altered = q i; rule = r i }
-
--- a step leaves the weights that are lent
-pub weights-stay : (ws : List ℕ) (s : State) (p : Step) → Narrows (yearIn ws s) p → (i : ℕ) → i < 64 → getD ws i 0 ≡ weight (p .year) i
-weights-stay ws s p v i h = sym (v .year .weight-same i ∙ ap (λ (c : Course). c .weight .0) (course-in ws (s .list) i h))
 
 -- ---- the code of one term
 
@@ -57,14 +43,16 @@ courses-of ByCredits y j d = refl
 courses-of (ByCounts full needed) y j d = refl
 courses-of (NoPlan r) y j d = absurd (d r refl)
 
+-- s with other lists, sums, mark and rule
+abbrev stateWith : State → List ℕ → List Sums → Bool → ℕ → State
+stateWith s l u a r = record { terms = s .terms; courses = s .courses; term = s .term; list = l; sums = u; altered = a; rule = r }
+
 module _ (ws : List ℕ) (s : State) (w : TermVerdict) (j : ℕ) (h : j < s .terms) (sound : Sound (yearIn ws s)) (e : s ≡ held (stepIn ws s)) (z : s .rule ≡ 0) where
   abbrev after : State
   after = held (next (termJudged w) (stepIn ws s) j)
 
-  pub no-plan : (r : ℕ) → w ≡ NoPlan r → record { terms = s .terms; courses = s .courses; term = s .term; list = s .list; sums = s .sums; altered = s .altered; rule = r } ≡ after
-  no-plan r q =
-      rw (q, z)
-      (state-is refl refl refl (ap (λ (t : State). t .list) e) (ap (λ (t : State). t .sums) e) (sym (or-false (s .altered))) refl)
+  pub no-plan : (r : ℕ) → w ≡ NoPlan r → stateWith s (s .list) (s .sums) (s .altered) r ≡ after
+  no-plan r q = rw (q, z) (λ i. stateWith s (s .list) (sums-held ws s e i) (sym (or-false (s .altered)) i) r)
 
   -- k after the courses of the term
   module _ (d : (r : ℕ) → w ≡ NoPlan r → ⊥) (k : Carried) (q : k ≡ carriedOf (overCourses (courseJudged w j) (live (yearIn ws s))) j) where
@@ -78,9 +66,6 @@ module _ (ws : List ℕ) (s : State) (w : TermVerdict) (j : ℕ) (h : j < s .ter
     narrows =
         narrows-over (courseJudged w j) (s .courses) (yearIn ws s) (live (yearIn ws s)) (lawful w (s .terms) (s .courses) j h) (narrows-rest (yearIn ws s) 0 sound) (s .courses) (le-refl (s .courses))
 
-    list : k .list ≡ listsOf (t .year)
-    list = ap (λ (z : Carried). z .list) q
-
     mark : k .altered ≡ t .altered
     mark = ap (λ (z : Carried). z .altered) q
 
@@ -91,36 +76,26 @@ module _ (ws : List ℕ) (s : State) (w : TermVerdict) (j : ℕ) (h : j < s .ter
     unaltered a =
         let still : t .altered ≡ false = sym mark ∙ a in
         e
-        ∙ ap held (step-is (sym (o .quiet still)) (sym (or-false (s .altered)) ∙ ap (λ b. s .altered || b) (sym still)) (z ∙ sym (o .goes-on)))
+        ∙ ap held (step-is (sym (narrows .still still)) (sym (or-false (s .altered)) ∙ ap (λ b. s .altered || b) (sym still)) (z ∙ sym (o .goes-on)))
         ∙ sym after-is
 
     -- the year of the new lists
-    year-after : yearFrom (s .terms) (s .courses) (s .term) ws (k .list) ≡ t .year
-    year-after =
-        (λ i. yearFrom (sym (narrows .year .terms-same) i) (sym (narrows .year .courses-same) i) (sym (o .term-same) i) ws (list i))
-        ∙ year-is (t .year) ws (narrows .year .sound) (weights-stay ws s t narrows)
+    abbrev new : Year
+    new = record { terms = s .terms; courses = s .courses; term = s .term; weight = ws; list = k .list }
 
-    sound-after : Sound (yearFrom (s .terms) (s .courses) (s .term) ws (k .list))
-    sound-after = subst Sound (sym year-after) (narrows .year .sound)
+    new-is : new ≡ t .year
+    new-is =
+        let n = narrows .year in
+        λ i. record { terms = sym (n .terms-same) i; courses = sym (n .courses-same) i; term = sym (o .term-same) i; weight = sym (n .weight-same) i; list = q i .list }
 
-    -- what sums over them ask
-    pub sums-fit : length ws ≡ 64 → ((s .courses ≤ 64) × (s .courses ≤ length ws) × (s .courses ≤ length (k .list)) × (s .terms ≤ 16))
-        × ((i : ℕ) → i < s .courses → (getD ws i 0 ≤ 1000) × (getD (k .list) i 0 < 2 ^ s .terms))
-    sums-fit l =
-        let long : length (k .list) ≡ 64 = ap length list ∙ length-tab 64 _ in (
-          (sound .courses-most, omega (arith, sound .courses-most), omega (arith, sound .courses-most), sound .terms-most),
-          λ i m. (
-            weight-fits (s .terms) (s .courses) (s .term) ws (k .list) sound-after i m,
-            list-fits (s .terms) (s .courses) (s .term) ws (k .list) sound-after i m,
-          ),
-        )
+    pub new-sound : Sound new
+    new-sound = subst Sound (sym new-is) (narrows .year .sound)
 
-    pub alters : k .altered ≡ true → (u : List Sums) → u ≡ tab 16 (λ i. sumsTo (coursesOnly ws (k .list)) i (s .courses))
-        → record { terms = s .terms; courses = s .courses; term = s .term; list = k .list; sums = u; altered = true; rule = 0 } ≡ after
+    pub alters : k .altered ≡ true → (u : List Sums) → u ≡ tab 16 (sumsTo ws (k .list) (s .courses)) → stateWith s (k .list) u true 0 ≡ after
+    unfolding sumsAt
     alters a u f =
-        state-is (sym (narrows .year .terms-same)) (sym (narrows .year .courses-same)) (sym (o .term-same)) list
-        (f ∙ sums-in (s .terms) (s .courses) (s .term) ws (k .list) ∙ ap (λ y. tab 16 (sumsAt y)) year-after)
-        (sym (or-true (s .altered)) ∙ ap (λ b. s .altered || b) (sym a ∙ mark)) (sym (o .goes-on))
+        ap (λ u. stateWith s (k .list) u true 0) f
+        ∙ ap held (step-is new-is (sym (or-true (s .altered)) ∙ ap (λ b. s .altered || b) (sym a ∙ mark)) (sym (o .goes-on)))
         ∙ sym after-is
 
 -- ---- rules 3 and 10 at a term, under its verdict
@@ -140,18 +115,18 @@ unfolding rule3 rule3Course courseJudged
 credits-is y j = refl
 
 -- no open course weighs more than heaviest: with room for heaviest, and enough without it, none has a verdict
-credits-nothing : (y : Year) (j heaviest : ℕ) → ((i : ℕ) → i < y .courses → openWeight y j i ≤ heaviest) → fixedCredits y j + heaviest ≤ highCredits y j → lowCredits y j + heaviest ≤ possibleCredits y j
+credits-nothing : (y : Year) (j heaviest : ℕ) → ((i : ℕ) → i < y .courses → openWeight (y .weight) (y .list) j i ≤ heaviest) → fixedCredits y j + heaviest ≤ highCredits y j → lowCredits y j + heaviest ≤ possibleCredits y j
     → rule3 y j ≡ live y
 unfolding rule3 rule3Course verdict3
 credits-nothing y j heaviest b h l = over-still (rule3Course j) y (y .courses) (λ i m. at i (b i m) (isOpen (courseAt y i) j) refl)
   where
-    at : (i : ℕ) → openWeight y j i ≤ heaviest → (o : Bool) → isOpen (courseAt y i) j ≡ o → rule3Course j y i ≡ live y
+    at : (i : ℕ) → openWeight (y .weight) (y .list) j i ≤ heaviest → (o : Bool) → isOpen (courseAt y i) j ≡ o → rule3Course j y i ≡ live y
     at i w true e =
         let light : weight y i ≤ heaviest = rw e at w in
         rw (e, le-ltb (highCredits y j) (fixedCredits y j + weight y i) (omega arith), le-ltb (possibleCredits y j - weight y i) (lowCredits y j) (omega arith))
     at i w false e = rw e
 
-pub rule-3-is : (y : Year) (j heaviest : ℕ) → ((i : ℕ) → i < y .courses → openWeight y j i ≤ heaviest) → rule3 y j ≡ termJudged (termVerdict3 (termAt y j) (sumsAt y j) heaviest) y j
+pub rule-3-is : (y : Year) (j heaviest : ℕ) → ((i : ℕ) → i < y .courses → openWeight (y .weight) (y .list) j i ≤ heaviest) → rule3 y j ≡ termJudged (termVerdict3 (termAt y j) (sumsAt y j) heaviest) y j
 unfolding sumsAt fixedCredits openCredits
 rule-3-is y j heaviest b = go (leb (fixedCredits y j + heaviest) (highCredits y j)) (leb (lowCredits y j + heaviest) (possibleCredits y j)) refl refl
   where
@@ -167,17 +142,9 @@ counts-nothing : (y : Year) (j : ℕ) → overCourses (rule10Course false false 
 unfolding rule10Course verdict10
 counts-nothing y j = over-still (rule10Course false false j) y (y .courses) (λ i m. ap (judged y i j) (choose-any (λ v. v ≡ Stays) (isOpen (courseAt y i) j) Stays Stays refl refl))
 
-none-open : (y : Year) (j : ℕ) → openCount y j ≡ 0 → (i : ℕ) → i < y .courses → isOpen (courseAt y i) j ≡ false
-unfolding openCount
-none-open y j e i h = go (isOpen (courseAt y i) j) refl (sum-term-le (y .courses) i (openOne y j) h)
-  where
-    go : (b : Bool) → isOpen (courseAt y i) j ≡ b → pick b 1 ≤ sum (y .courses) (openOne y j) → isOpen (courseAt y i) j ≡ false
-    go true q l = absurd (omega arith)
-    go false q l = q
-
 none-open-nothing : (y : Year) (j : ℕ) (p q : Bool) → openCount y j ≡ 0 → overCourses (rule10Course p q j) (live y) ≡ live y
-unfolding rule10Course verdict10
-none-open-nothing y j p q e = over-still (rule10Course p q j) y (y .courses) (λ i m. rw (none-open y j e i m))
+unfolding rule10Course verdict10 openCount
+none-open-nothing y j p q e = over-still (rule10Course p q j) y (y .courses) (λ i m. rw (none-open (y .weight) (y .list) j (y .courses) e i m))
 
 counted : (y : Year) (j : ℕ) (p q : Bool) → overCourses (rule10Course p q j) (live y) ≡ termJudged (ByCounts p q) y j
 unfolding rule10Course courseJudged

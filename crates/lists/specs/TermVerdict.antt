@@ -5,7 +5,6 @@ use lib.Dec.{eqb, leb, ltb}
 use Rattle.theory.specs.Choice.{choose}
 use Rattle.year.specs.Year.{termAt, courseAt}
 use Rattle.year.specs.Sums.{fixedCredits, possibleCredits}
-use Rattle.totals.specs.Parts.{listsOf}
 use Rattle.year.specs.declared.Course.{Course}
 use Rattle.year.specs.declared.Sums.{Sums}
 use Rattle.year.specs.declared.Term.{Term}
@@ -58,7 +57,7 @@ termJudged (ByCounts full needed) y j = overCourses (courseJudged (ByCounts full
 -- a year's lists with p and P of term j
 abbrev pub carried : Year → Bool → ℕ → Carried
 carried y a j = record {
-  list = listsOf y;
+  list = y .list;
   fixed = record { 0 = fixedCredits y j };
   possible = record { 0 = possibleCredits y j };
   altered = a;

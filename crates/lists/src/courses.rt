@@ -4,11 +4,10 @@ use crate::TermVerdict;
 use crate::verdicts;
 use frame::State;
 use rules::Verdict;
-use totals::parts;
 use year::doors;
+use year::pairs;
 ghost use mathlib.Core.Path.{_≡_};
 ghost use Prim.Native.Nat.{_<_};
-ghost use lib.ListN.{length};
 ghost use Rattle.year.specs.Sound.{Sound};
 ghost use Rattle.rules.specs.Step.{live, overCourses};
 ghost use Rattle.frame.specs.State.{held, yearIn, stepIn};
@@ -16,7 +15,7 @@ ghost use Rattle.lists.specs.TermVerdict.{carriedOf, courseJudged};
 
 // The courses of term j, one after the other.
 pub fn each_course(s: State, weight: &[u32], j: usize, whole: TermVerdict) -> Carried
-    requires { ⌜ (length (now weight) ≡ 64) × (j < s .terms) ⌝ }
+    requires { ⌜ j < s .terms ⌝ }
     requires { ⌜ Sound (yearIn (now weight) s) ⌝ }
     requires { ⌜ s ≡ held (stepIn (now weight) s) ⌝ }
     ensures { λ r. ⌜ r ≡ carriedOf (overCourses (courseJudged whole j) (live (yearIn (now (weight .entry)) s))) j ⌝ }
@@ -35,7 +34,7 @@ pub fn each_course(s: State, weight: &[u32], j: usize, whole: TermVerdict) -> Ca
     let mut i = 0;
     while i < s.courses {
         // only courses before i were altered
-        let c = parts::course(weight, &list, i);
+        let c = pairs::course_in(weight, &list, i);
         let credits = c.weight.0;
         let v = verdicts::course_verdict(whole, c, t, k.fixed, k.possible, j);
         match v {

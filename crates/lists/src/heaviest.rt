@@ -1,16 +1,15 @@
 // The weight of the heaviest course that is open in each term. Lists only shrink, so it bounds the open courses of every later
 // year as well.
-use totals::parts;
 use year::Course;
 use year::Credits;
 use year::Year;
+use year::pairs;
 ghost use mathlib.Core.Path.{_≡_};
 ghost use Prim.Native.Nat.{_≤_, _<_, max};
 ghost use lib.ListN.{length};
 ghost use Rattle.theory.specs.Sum.{pick};
 ghost use Rattle.theory.specs.Tab.{tab};
 ghost use Rattle.year.specs.Year.{isOpen};
-ghost use Rattle.totals.specs.Parts.{coursesFrom};
 ghost use Rattle.lists.specs.Heaviest.{heaviestWith, heaviestIn};
 
 // The weight at hand, or the course's if that is open in term k and heavier.
@@ -38,12 +37,12 @@ fn with_course(heaviest: [Credits; Year::TERMS], c: Course) -> [Credits; Year::T
 
 // All sixteen, over the first n courses.
 pub fn heaviest(weight: &[u32], list: &[u16], n: usize) -> [Credits; Year::TERMS]
-    requires { ⌜ (n ≤ 64) × (n ≤ length (now weight)) × (n ≤ length (now list)) ⌝ }
-    ensures { λ r. ⌜ r ≡ tab 16 (heaviestIn (coursesFrom (now (weight .entry)) (now (list .entry))) n) ⌝ }
+    requires { ⌜ (n ≤ length (now weight)) × (n ≤ length (now list)) ⌝ }
+    ensures { λ r. ⌜ r ≡ tab 16 (heaviestIn (now (weight .entry)) (now (list .entry)) n) ⌝ }
 {
     let mut heaviest = [Credits(0); Year::TERMS];
     for i in 0..n {
-        let next = with_course(heaviest, parts::course(weight, list, i));
+        let next = with_course(heaviest, pairs::course_in(weight, list, i));
         heaviest = next;
     }
     heaviest

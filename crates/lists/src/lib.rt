@@ -8,7 +8,6 @@ use frame::State;
 use year::Credits;
 use year::Year;
 ghost use mathlib.Core.Path.{_≡_};
-ghost use lib.ListN.{length};
 ghost use Rattle.year.specs.Sound.{Sound};
 ghost use Rattle.rules.specs.Step.{overTerms};
 ghost use Rattle.frame.specs.State.{held, yearIn, stepIn};
@@ -33,7 +32,6 @@ pub enum TermVerdict {
 
 // Rule 3 over the terms of the year.
 pub fn rule_3(s: State, weight: &[u32]) -> State
-    requires { ⌜ length (now weight) ≡ 64 ⌝ }
     requires { ⌜ Sound (yearIn (now weight) s) ⌝ }
     requires { ⌜ s ≡ held (stepIn (now weight) s) ⌝ }
     ensures { λ r. ⌜ r ≡ held (overTerms rule3 (stepIn (now (weight .entry)) s)) ⌝ }
@@ -57,7 +55,6 @@ pub fn rule_3(s: State, weight: &[u32]) -> State
 
 // Rule 10 over the terms of the year, up to one where it finds no plan. Where a rule before it found none, the loop ends at once.
 pub fn rule_10(s: State, weight: &[u32]) -> State
-    requires { ⌜ length (now weight) ≡ 64 ⌝ }
     requires { ⌜ Sound (yearIn (now weight) s) ⌝ }
     requires { ⌜ s ≡ held (stepIn (now weight) s) ⌝ }
     ensures { λ r. ⌜ r ≡ held (overTerms rule10 (stepIn (now (weight .entry)) s)) ⌝ }

@@ -4,7 +4,6 @@ use crate::courses;
 use frame::State;
 ghost use mathlib.Core.Path.{_≡_};
 ghost use Prim.Native.Nat.{_<_};
-ghost use lib.ListN.{length};
 ghost use Rattle.year.specs.Sound.{Sound};
 ghost use Rattle.rules.specs.Step.{next};
 ghost use Rattle.frame.specs.State.{held, yearIn, stepIn};
@@ -12,7 +11,7 @@ ghost use Rattle.lists.specs.TermVerdict.{termJudged};
 
 // Term j of a state that goes on. The sums are computed anew only where a list was altered.
 pub fn term_judged(s: State, weight: &[u32], j: usize, whole: TermVerdict) -> State
-    requires { ⌜ (length (now weight) ≡ 64) × (j < s .terms) ⌝ }
+    requires { ⌜ j < s .terms ⌝ }
     requires { ⌜ Sound (yearIn (now weight) s) ⌝ }
     requires { ⌜ s ≡ held (stepIn (now weight) s) ⌝ }
     requires { ⌜ s .rule ≡ 0 ⌝ }

@@ -14,14 +14,10 @@ use Rattle.theory.specs.Tab.{tab}
 use Rattle.theory.proofs.TabLaws.{length-tab, getD-tab}
 use Rattle.year.specs.Sound.{Sound}
 use Rattle.year.specs.Sums.{isPlaced}
-use Rattle.year.specs.Year.{weight}
-use Rattle.year.specs.declared.Course.{Course}
-use Rattle.totals.specs.Parts.{courseFrom}
-use Rattle.totals.proofs.PartLaws.{course-in}
+use Rattle.year.specs.Year.{weight, courseIn}
 use Rattle.rules.specs.Spares.{up}
 use Rattle.frame.specs.State.{yearIn}
 use Rattle.frame.specs.declared.State.{State}
-use Rattle.frame.proofs.StateLaws.{lists-fit}
 use Rattle.orders.proofs.OrderLaws.{up-fits, up-onto, up-total, up-rises}
 use Rattle.packing.specs.Sizes.{sizeIn}
 use Rattle.packing.specs.Thresholds.{Rising, lastWeight}
@@ -36,27 +32,15 @@ module _ (w : List ℕ) (s : State) (a : Sound (yearIn w s)) where
   abbrev pub sizes : List ℕ
   sizes = tab n (sizeIn w (s .list))
 
-  weight-is : (i : ℕ) → i < n → weight (yearIn w s) i ≡ getD w i 0
-  weight-is i l = ap (λ (c : Course). c .weight .0) (course-in w (s .list) i (omega (arith, a .courses-most)))
-
   -- the size at a place of the order, of which there are n
-  size-at : (r : ℕ) → r < n → getD sizes (getD o r 0) 0 ≡ pick (not (isPlaced (courseFrom w (s .list) (getD o r 0)))) (getD w (getD o r 0) 0)
+  size-at : (r : ℕ) → r < n → getD sizes (getD o r 0) 0 ≡ pick (not (isPlaced (courseIn w (s .list) (getD o r 0)))) (getD w (getD o r 0) 0)
   size-at r l = getD-tab n (sizeIn w (s .list)) 0 (getD o r 0) (up-fits (yearIn w s) a .small r l)
 
   rises : (r q : ℕ) → r ≤ q → q < n → (getD sizes (getD o q 0) 0 ≡ 0) ⊎ (getD sizes (getD o r 0) 0 ≤ getD sizes (getD o q 0) 0)
   rises r q l m =
       rw (size-at r (omega arith), size-at q m)
-      (go (not (isPlaced (courseFrom w (s .list) (getD o r 0)))) (not (isPlaced (courseFrom w (s .list) (getD o q 0)))) (getD w (getD o r 0) 0) (getD w (getD o q 0) 0) by-weight)
+      (go (not (isPlaced (courseIn w (s .list) (getD o r 0)))) (not (isPlaced (courseIn w (s .list) (getD o q 0)))) (getD w (getD o r 0) 0) (getD w (getD o q 0) 0) (up-rises (yearIn w s) a r q l m))
     where
-      by-weight : getD w (getD o r 0) 0 ≤ getD w (getD o q 0) 0
-      by-weight =
-          omega (
-            arith,
-            up-rises (yearIn w s) a r q l m,
-            weight-is (getD o r 0) (up-fits (yearIn w s) a .small r (omega arith)),
-            weight-is (getD o q 0) (up-fits (yearIn w s) a .small q m),
-          )
-
       go : (f g : Bool) (x z : ℕ) → x ≤ z → (pick g z ≡ 0) ⊎ (pick f x ≤ pick g z)
       go f false x z h = inl refl
       go true true x z h = inr h
@@ -83,7 +67,7 @@ module _ (w : List ℕ) (s : State) (a : Sound (yearIn w s)) where
 
       go : Dec (n ≡ 0) → lastWeight w o n ≤ 1000
       go (yes e) = rw e (omega arith)
-      go (no d) = omega (arith, last d, lists-fit w s a (getD o (n - 1) 0) (up-fits (yearIn w s) a .small (n - 1) (omega (arith, d))) .0)
+      go (no d) = omega (arith, last d, a .course-sound (getD o (n - 1) 0) (up-fits (yearIn w s) a .small (n - 1) (omega (arith, d))) .weight-most)
 
       each : (i : ℕ) → i < length sizes → getD sizes i 0 ≤ lastWeight w o n
       each i l =
@@ -93,10 +77,8 @@ module _ (w : List ℕ) (s : State) (a : Sound (yearIn w s)) where
           omega (
             arith,
             getD-tab n (sizeIn w (s .list)) 0 i few,
-            pick-le (not (isPlaced (courseFrom w (s .list) i))) (getD w i 0),
-            weight-is i few,
+            pick-le (not (isPlaced (courseIn w (s .list) i))) (getD w i 0),
             ap (weight (yearIn w s)) (r .2),
             up-rises (yearIn w s) a (r .0) (n - 1) (omega (arith, r .1)) (omega arith),
-            weight-is (getD o (n - 1) 0) (up-fits (yearIn w s) a .small (n - 1) (omega arith)),
             last d,
           )

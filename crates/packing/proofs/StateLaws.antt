@@ -1,4 +1,4 @@
--- Rule 11 on the state that the code carries: its tests over the parts are the year's, and its answer is the step's.
+-- Rule 11 on the state that the code carries: its tests over the columns are the year's, and its answer is the step's.
 use Prim.Native.Nat.{ℕ, _+_, _-_, _*_, _/_, _≤_, _<_}
 use mathlib.Core.Bool.{Bool, true, false, not, _||_, or-false}
 use mathlib.Core.List.{List}
@@ -8,7 +8,7 @@ use lib.Dec.{eqb, ltb}
 use lib.ListN.{getD}
 use borrow.Author.Tests.{ne-eqb}
 use Rattle.theory.specs.Choice.{choose}
-use Rattle.theory.specs.Sum.{pick, sum}
+use Rattle.theory.specs.Sum.{sum}
 use Rattle.theory.proofs.SumLaws.{sum-cong}
 use Rattle.theory.specs.Packing.{share}
 use Rattle.theory.specs.Tab.{tab}
@@ -16,11 +16,11 @@ use Rattle.theory.specs.Tests.{any}
 use Rattle.theory.proofs.TestLaws.{any-same}
 use Rattle.theory.proofs.PackingLaws.{ceiling-test}
 use Rattle.year.specs.Sums.{isPlaced, fixedCredits}
-use Rattle.totals.specs.Parts.{courseFrom, highIn, fixedIn}
+use Rattle.year.specs.Year.{courseIn}
+use Rattle.frame.specs.Bounds.{highIn}
+use Rattle.year.specs.SumsOf.{fixedIn}
 use Rattle.year.specs.Sound.{Sound}
-use Rattle.year.specs.declared.Course.{Course}
 use Rattle.year.specs.declared.Year.{Year}
-use Rattle.totals.proofs.PartLaws.{course-in}
 use Rattle.year.proofs.SumLaws.{fixed-read}
 use Rattle.rules.specs.Step.{step, live, dead}
 use Rattle.frame.specs.State.{held, yearIn, stepIn}
@@ -58,12 +58,10 @@ module _ (w : List ℕ) (s : State) (e : s ≡ held (stepIn w s)) where
   fixed-is : (k : ℕ) → k < 16 → fixedIn (s .sums) k ≡ fixedCredits (yearIn w s) k
   fixed-is k h = fixed-read (yearIn w s) (s .sums) (sums-held w s e) k h
 
-  courses-are : (c t : ℕ) → s .courses ≤ 64 → sum (s .courses) (courseShare (yearIn w s) c t) ≡ shareSum (tab (s .courses) (sizeIn w (s .list))) c t
-  courses-are c t h =
+  courses-are : (c t : ℕ) → sum (s .courses) (courseShare (yearIn w s) c t) ≡ shareSum (tab (s .courses) (sizeIn w (s .list))) c t
+  courses-are c t =
       sum-cong (s .courses) (courseShare (yearIn w s) c t) (λ i. share c t (sizeIn w (s .list) i))
-      (λ i l.
-      ap (λ (z : Course). pick (not (isPlaced z)) (share c t (z .weight .0))) (course-in w (s .list) i (omega arith))
-      ∙ sym (share-pick c t (not (isPlaced (courseFrom w (s .list) i))) (getD w i 0)))
+      (λ i l. sym (share-pick c t (not (isPlaced (courseIn w (s .list) i))) (getD w i 0)))
       ∙ sym (share-tab (s .courses) (sizeIn w (s .list)) c t)
 
   terms-are : (c t : ℕ) → s .terms ≤ 16 → sum (s .terms) (termShare (yearIn w s) c t) ≡ shareSum (tab (s .terms) (usedIn (s .term) (s .sums) c)) c t
@@ -75,7 +73,7 @@ module _ (w : List ℕ) (s : State) (e : s ≡ held (stepIn w s)) where
   shares-are : (c t : ℕ) → Sound (yearIn w s)
       → shares (yearIn w s) c t ≡ shareSum (tab (s .courses) (sizeIn w (s .list))) c t + shareSum (tab (s .terms) (usedIn (s .term) (s .sums) c)) c t
   unfolding shares
-  shares-are c t a = ap₂ _+_ (courses-are c t (a .courses-most)) (terms-are c t (a .terms-most))
+  shares-are c t a = ap₂ _+_ (courses-are c t) (terms-are c t (a .terms-most))
 
   abbrev overIn : ℕ → ℕ → Bool
   overIn c = over (tab (s .courses) (sizeIn w (s .list))) (tab (s .terms) (usedIn (s .term) (s .sums) c)) c (s .terms * c)

@@ -3,7 +3,8 @@ use Prim.Native.Nat.{ℕ}
 use mathlib.Core.Bool.{Bool}
 use mathlib.Core.List.{List}
 use lib.Dec.{ltb}
-use Rattle.totals.specs.Parts.{highIn, fixedIn}
+use Rattle.frame.specs.Bounds.{highIn}
+use Rattle.year.specs.SumsOf.{fixedIn}
 use Rattle.theory.specs.Largest.{largest}
 use Rattle.year.specs.declared.Term.{Term}
 use Rattle.year.specs.declared.Sums.{Sums}

@@ -9,7 +9,9 @@ use Rattle.theory.specs.Sum.{pick, sum}
 use Rattle.theory.specs.Tests.{any}
 use Rattle.theory.specs.Packing.{share}
 use Rattle.year.specs.Sums.{isPlaced}
-use Rattle.totals.specs.Parts.{courseFrom, highIn, fixedIn}
+use Rattle.year.specs.Year.{courseIn}
+use Rattle.frame.specs.Bounds.{highIn}
+use Rattle.year.specs.SumsOf.{fixedIn}
 use Rattle.year.specs.declared.Course.{Course}
 use Rattle.year.specs.declared.Sums.{Sums}
 use Rattle.year.specs.declared.Term.{Term}
@@ -21,9 +23,9 @@ use Rattle.rules.specs.Packing.{burst, room, bursts}
 abbrev pub sizeOf : Course → ℕ
 sizeOf c = pick (not (isPlaced c)) (c .weight .0)
 
--- of a course that two arrays hold
+-- of a course of two columns
 abbrev pub sizeIn : List ℕ → List ℕ → ℕ → ℕ
-sizeIn w l i = sizeOf (courseFrom w l i)
+sizeIn w l i = sizeOf (courseIn w l i)
 
 -- what of room c is not free in term k
 abbrev pub usedIn : List Term → List Sums → ℕ → ℕ → ℕ

@@ -16,7 +16,6 @@ ghost use Rattle.packing.specs.Sizes.{unpackable};
 
 // Some term is over its high credits already, or the sizes are too much for all terms together.
 fn unpackable(s: State, weight: &[u32], rising: &[u8]) -> bool
-    requires { ⌜ length (now weight) ≡ 64 ⌝ }
     requires { ⌜ Sound (yearIn (now weight) s) ⌝ }
     requires { ⌜ s ≡ held (stepIn (now weight) s) ⌝ }
     requires { ⌜ now rising ≡ up (yearIn (now weight) s) ⌝ }
@@ -43,7 +42,6 @@ fn unpackable(s: State, weight: &[u32], rising: &[u8]) -> bool
 
 // Rule 11, once for the year. `rising` is its courses from lightest to heaviest.
 pub fn rule_11(s: State, weight: &[u32], rising: &[u8]) -> State
-    requires { ⌜ length (now weight) ≡ 64 ⌝ }
     requires { ⌜ Sound (yearIn (now weight) s) ⌝ }
     requires { ⌜ s ≡ held (stepIn (now weight) s) ⌝ }
     requires { ⌜ now rising ≡ up (yearIn (now weight) s) ⌝ }

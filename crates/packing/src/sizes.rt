@@ -1,11 +1,11 @@
 // Sizes: the weight of each course with several terms, and for each term what of the room c is not free there.
 // What they count for at t, and the most that they count for at any t. Arrays of sizes are numbers, since they are lent.
-use totals::parts;
 use year::Course;
 use year::Credits;
 use year::Sums;
 use year::Term;
 use year::Year;
+use year::pairs;
 use year::tighter;
 ghost use mathlib.Core.Path.{_≡_};
 ghost use Prim.Native.Nat.{ℕ, _≤_, _<_};
@@ -32,7 +32,7 @@ pub fn course_sizes(weight: &[u32], list: &[u16], n: usize) -> [u32; Year::COURS
 {
     let mut r = [0u32; Year::COURSES];
     for i in 0..n {
-        let size = course_size(parts::course(weight, list, i));
+        let size = course_size(pairs::course_in(weight, list, i));
         r[i] = size.0;
     }
     r

@@ -1,5 +1,7 @@
 -- Each public call's own theorem.
 use Rattle.year.proofs.Year.empty.Met as empty-call
+use Rattle.year.proofs.Year.by_hand.Met as by-hand-call
+use Rattle.year.proofs.Year.course.Met as course-call
 use Rattle.year.proofs.sound.is_sound.Met as is-sound-call
 use Rattle.year.proofs.Year.place.Met as place-call
 use Rattle.year.proofs.Year.bar.Met as bar-call
@@ -25,6 +27,8 @@ use Rattle.promises.specs.Answering.{EachAnswers}
 pub each-answers : (M : Type 1) → EachAnswers M
 each-answers M = record {
   empty = empty-call.met;
+  by-hand = by-hand-call.met;
+  course = course-call.met;
   is-sound = is-sound-call.met;
   place = place-call.met;
   bar = bar-call.met;

@@ -1,11 +1,12 @@
 -- The joined year: its terms and its courses, its records; a list of terms alone beside reading; the editions' weights.
-use Prim.Native.Nat.{ℕ, _+_, _*_}
+use Prim.Native.Nat.{ℕ, _*_}
 use mathlib.Core.List.{List, [], _++_, append-nil}
 use mathlib.Core.Path.{_≡_, refl, sym, ap, ap₂, _∙_}
 use native.Mathlib.Omega.{arith}
 use lib.ListN.{length, take, getD}
 use lib.Seq.{take-append-seam}
-use Rattle.year.specs.Year.{emptyYear, courseOf, courseAt, zeroTerm}
+use Rattle.year.specs.Doors.{emptyYear}
+use Rattle.year.specs.Year.{courseOf, courseAt, zeroTerm}
 use Rattle.year.specs.Sound.{Sound}
 use Rattle.year.specs.declared.Course.{Course}
 use Rattle.year.specs.declared.Year.{Year}

@@ -4,6 +4,7 @@ pub mod RoundsKept
 pub mod Narrowings
 pub mod OnePlacing
 pub mod SettledPlan
+pub mod ByHand
 pub mod ImbalancePlan
 pub mod Answers
 pub mod Codes

@@ -12,7 +12,8 @@ use Rattle.theory.proofs.ChoiceLaws.{choose-case}
 use Rattle.theory.proofs.TestLaws.{or-false, same-less}
 use Rattle.theory.specs.Bits.{has}
 use Rattle.theory.proofs.BitLaws.{has-power}
-use Rattle.year.specs.Year.{zeroCourse, termAt, courseAt, list, lists, isFixed, withList, lowCredits, highCredits, lowCount, highCount, withTerm, placed, struck}
+use Rattle.year.specs.Year.{termAt, courseAt, list, lists, isFixed, lowCredits, highCredits, lowCount, highCount}
+use Rattle.year.specs.Doors.{withList, withTerm, placed, struck}
 use Rattle.year.specs.Tight.{creditsWithin, countsWithin}
 use Rattle.year.specs.Narrow.{answered, checked, noSuch, placing, barring, placeOf, barOf, tightened, raiseLowCreditsOf, lowerHighCreditsOf, raiseLowCountOf, lowerHighCountOf}
 use Rattle.year.specs.Plans.{Placing, Plan}
@@ -172,7 +173,7 @@ there-are y i j e =
 
 module _ (y : Year) (i j : ℕ) where
   own-list : withList y i (list y i) ≡ y
-  own-list = λ k. record { terms = y .terms; courses = y .courses; term = y .term; course = set-getD (y .course) i zeroCourse k }
+  own-list = λ k. record { terms = y .terms; courses = y .courses; term = y .term; weight = y .weight; list = set-getD (y .list) i 0 k }
 
   placed-narrower : Sound y → i < y .courses → j < y .terms → lists (courseAt y i) j ≡ true → Narrower y (placed y i j)
   placed-narrower s h l e = go (isFixed (courseAt y i) j) refl

@@ -7,7 +7,7 @@ use native.Mathlib.Omega.{arith}
 use lib.Dec.{leb}
 use lib.ListN.{length, take, drop}
 use lib.Seq.{take-append-seam, drop-append-seam}
-use Rattle.year.specs.Year.{emptyYear}
+use Rattle.year.specs.Doors.{emptyYear}
 use Rattle.year.specs.Sound.{isSound}
 use Rattle.year.specs.declared.Year.{Year}
 use Rattle.records.specs.Numbers.{faultNumber, readingNumber, writingNumber}

@@ -24,9 +24,8 @@ use Rattle.filter.specs.Numbers.{isSettled}
 use Rattle.records.proofs.ListLaws.{read-sound}
 use Rattle.records.proofs.WriteRead.{write-read}
 use Rattle.filter.proofs.RoundLaws.{filter-narrower}
-use Rattle.rules.proofs.Alike.{Alike, alike-narrower, credits-alike, count-alike}
 use Rattle.rules.specs.Narrower.{Narrower}
-use Rattle.rules.proofs.Narrows.{narrower-self, narrower-then}
+use Rattle.rules.proofs.Narrows.{narrower-self, narrower-then, credits-in-same, count-in-same}
 use Rattle.promises.specs.Narrowings.{Narrow, place, bar, raiseLowCredits, lowerHighCredits, raiseLowCount, lowerHighCount, narrow, Meets}
 use Rattle.promises.specs.Sequence.{Origin, value, records, hours, start, Call, narrowBy, filter, writeAndRead, result, readBack, after, Asks, MeetsAll, PlanThatMeets}
 use Rattle.promises.proofs.Narrowings.{each-narrowing, narrow-narrower}
@@ -37,13 +36,13 @@ use Rattle.promises.proofs.JoinedYear.{joined-sound}
 
 -- ---- one call
 
-meets-alike : (first y : Year) (n : Narrow) (p : Placing) → Alike first y → Meets y n p ↔ Meets first n p
-meets-alike first y (place i j) p a = (λ h. h, λ h. h)
-meets-alike first y (bar i j) p a = (λ h. h, λ h. h)
-meets-alike first y (raiseLowCredits j v) p a = let e = credits-alike first y p a j in (λ h. omega arith, λ h. omega arith)
-meets-alike first y (lowerHighCredits j v) p a = let e = credits-alike first y p a j in (λ h. omega arith, λ h. omega arith)
-meets-alike first y (raiseLowCount j v) p a = let e = count-alike first y p a j in (λ h. omega arith, λ h. omega arith)
-meets-alike first y (lowerHighCount j v) p a = let e = count-alike first y p a j in (λ h. omega arith, λ h. omega arith)
+meets-same : (first y : Year) (n : Narrow) (p : Placing) → Narrower first y → Meets y n p ↔ Meets first n p
+meets-same first y (place i j) p a = (λ h. h, λ h. h)
+meets-same first y (bar i j) p a = (λ h. h, λ h. h)
+meets-same first y (raiseLowCredits j v) p a = let e = credits-in-same first y a p j in (λ h. omega arith, λ h. omega arith)
+meets-same first y (lowerHighCredits j v) p a = let e = credits-in-same first y a p j in (λ h. omega arith, λ h. omega arith)
+meets-same first y (raiseLowCount j v) p a = let e = count-in-same first y a p j in (λ h. omega arith, λ h. omega arith)
+meets-same first y (lowerHighCount j v) p a = let e = count-in-same first y a p j in (λ h. omega arith, λ h. omega arith)
 
 -- what was written reads back to the same year
 read-back : (y : Year) (b : List ℕ) → Sound y → readBack y b ≡ y
@@ -64,7 +63,7 @@ call-keeps first (narrowBy n) y w =
     go : (p : Placing) → Dec (narrowingNumber (narrow n y .answer) ≡ 0) → Plan (narrow n y .year) p ↔ (Plan y p × (narrowingNumber (narrow n y .answer) ≡ 0 → Meets first n p))
     go p (yes e) =
         let q = each-narrowing n y .plans e p in
-        let m = meets-alike first y n p (alike-narrower first y w) in
+        let m = meets-same first y n p w in
         (λ h. (q .0 h .0, λ z. m .0 (q .0 h .1)), λ h. q .1 (h .0, m .1 (h .1 e)))
     go p (no d) = let e = each-narrowing n y .refused d in (λ h. (subst (λ z. Plan z p) e h, λ z. absurd (d z)), λ h. subst (λ z. Plan z p) (sym e) (h .0))
 call-keeps first filter y w = record {

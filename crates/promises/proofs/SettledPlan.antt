@@ -1,12 +1,11 @@
 -- Settled means one plan: the placing that the filtered year leaves. Where every course had a single term before, filtering says
 -- settled exactly if that placing is a plan.
 use Prim.Native.Nat.{ℕ, suc, _<_}
-use mathlib.Core.Bool.{true, false, true≢false}
+use mathlib.Core.Bool.{true, true≢false}
 use mathlib.Core.Logic.{_↔_}
 use mathlib.Core.Path.{_≡_, refl, sym}
 use native.Mathlib.Omega.{arith}
 use Rattle.theory.proofs.ChoiceLaws.{choose-case}
-use Rattle.theory.specs.Bits.{has}
 use Rattle.year.specs.Sums.{allPlaced}
 use Rattle.year.specs.Plans.{Placing, Plan, PlacedBy, thePlacing}
 use Rattle.year.specs.Sound.{Sound}

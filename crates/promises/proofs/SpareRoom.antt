@@ -13,7 +13,8 @@ use Rattle.theory.specs.Fold.{fold}
 use Rattle.theory.proofs.ChoiceLaws.{choose-case}
 use Rattle.theory.specs.Tab.{tab}
 use Rattle.theory.specs.Walk.{Table, Reached, walk}
-use Rattle.year.specs.Year.{termAt, weight, highCredits, lowCount, highCount, withTerm}
+use Rattle.year.specs.Year.{termAt, weight, highCredits, lowCount, highCount}
+use Rattle.year.specs.Doors.{withTerm}
 use Rattle.year.specs.Sums.{fixedCredits, fixedCount, openCount}
 use Rattle.year.specs.Tight.{creditsWithin, countsWithin}
 use Rattle.year.specs.Sound.{Sound}

@@ -12,6 +12,8 @@ by-two d l left = record { asks-nothing = λ a. tt; one-end = λ a r s e f p q i
 pub one-result : OneResult
 one-result = record {
   empty = λ κs. by-one _;
+  by-hand = λ κs. by-one _;
+  course = λ κs. by-one _;
   is-sound = λ κs. by-one _;
   place = λ κs. by-one _;
   bar = λ κs. by-one _;

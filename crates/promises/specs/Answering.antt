@@ -1,6 +1,8 @@
 -- Every public call gets an answer: the kit's own statement of each, that from whatever it is given the function returns, without
 -- trapping, in an end that meets its contract. Unique says that no contract asks anything and that it allows one end.
 use Rattle.year.proofs.Year.empty.Statement as empty-call
+use Rattle.year.proofs.Year.by_hand.Statement as by-hand-call
+use Rattle.year.proofs.Year.course.Statement as course-call
 use Rattle.year.proofs.sound.is_sound.Statement as is-sound-call
 use Rattle.year.proofs.Year.place.Statement as place-call
 use Rattle.year.proofs.Year.bar.Statement as bar-call
@@ -25,6 +27,8 @@ use Rattle.display.proofs.front.Statement as front-call
 -- a line for each public call
 pub record EachAnswers (M : Type 1) : Type 2 where
   pub empty : empty-call.statement M
+  pub by-hand : by-hand-call.statement M
+  pub course : course-call.statement M
   pub is-sound : is-sound-call.statement M
   pub place : place-call.statement M
   pub bar : bar-call.statement M

@@ -5,7 +5,7 @@ use mathlib.Core.List.{List}
 use mathlib.Core.Logic.{_↔_}
 use mathlib.Core.Path.{_≡_}
 use lib.ListN.{length, take, drop}
-use Rattle.year.specs.Year.{emptyYear}
+use Rattle.year.specs.Doors.{emptyYear}
 use Rattle.year.specs.Plans.{Placing, Plan, thePlacing}
 use Rattle.year.specs.Sound.{Sound}
 use Rattle.year.specs.Sums.{allPlaced}

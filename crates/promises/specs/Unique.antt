@@ -6,6 +6,8 @@ use mathlib.Core.Path.{_≡_}
 use contract.Lifetimes.{Lfts}
 use denote.Ref.{RefT, now}
 use Rattle.year.proofs.Year.empty.Reads as empty-call
+use Rattle.year.proofs.Year.by_hand.Reads as by-hand-call
+use Rattle.year.proofs.Year.course.Reads as course-call
 use Rattle.year.proofs.sound.is_sound.Reads as is-sound-call
 use Rattle.year.proofs.Year.place.Reads as place-call
 use Rattle.year.proofs.Year.bar.Reads as bar-call
@@ -57,6 +59,8 @@ bytesOf r e = now r
 
 pub record OneResult : Type 0 where
   pub empty : (κs : Lfts 0) → One (empty-call.Pre κs) (empty-call.Post κs) result
+  pub by-hand : (κs : Lfts 0) → One (by-hand-call.Pre κs) (by-hand-call.Post κs) result
+  pub course : (κs : Lfts 0) → One (course-call.Pre κs) (course-call.Post κs) result
   pub is-sound : (κs : Lfts 0) → One (is-sound-call.Pre κs) (is-sound-call.Post κs) result
   pub place : (κs : Lfts 0) → One (place-call.Pre κs) (place-call.Post κs) result
   pub bar : (κs : Lfts 0) → One (bar-call.Pre κs) (bar-call.Post κs) result

@@ -3,14 +3,15 @@
 use Prim.Native.Nat.{ℕ, zero, suc, _+_, _-_, _≤_, _<_}
 use mathlib.Core.Bool.{Bool, true, false}
 use mathlib.Core.Logic.{_⊎_, inl, inr}
-use mathlib.Core.Path.{_≡_, refl, sym, ap, _∙_}
+use mathlib.Core.Path.{_≡_, refl, sym, ap, ap₂, _∙_}
 use native.Mathlib.Nat.{add-zero, add-suc}
 use native.Mathlib.Omega.{arith}
 use native.Mathlib.Decide.{ℕ-discrete}
 use lib.ListN.{length, length-set, length-replicate, getD-replicate}
 use lib.Seq.{getD-set-same, getD-set-other}
 use Rattle.theory.specs.Choice.{choose}
-use Rattle.year.specs.Year.{termAt, courseAt, zeroTerm, zeroCourse, emptyYear}
+use Rattle.year.specs.Year.{termAt, courseAt, courseOf, zeroTerm, zeroCourse}
+use Rattle.year.specs.Doors.{emptyYear}
 use Rattle.year.specs.Sound.{TermSound, CourseSound, Sound}
 use Rattle.year.specs.declared.Term.{Term}
 use Rattle.year.specs.declared.Course.{Course}
@@ -169,7 +170,8 @@ pub record Begun (y : Year) : Type 0 where
   pub terms-most : y .terms ≤ 16
   pub courses-most : y .courses ≤ 64
   pub term-length : length (y .term) ≡ 16
-  pub course-length : length (y .course) ≡ 64
+  pub weight-length : length (y .weight) ≡ 64
+  pub list-length : length (y .list) ≡ 64
   pub term-sound : (j : ℕ) → j < y .terms → TermSound (termAt y j)
   pub course-sound : (i : ℕ) → i < y .courses → CourseSound (courseAt y i) (y .terms)
   pub term-blank : (j : ℕ) → y .terms ≤ j → j < 16 → termAt y j ≡ zeroTerm
@@ -180,11 +182,12 @@ begun-blank = record {
   terms-most = omega arith;
   courses-most = omega arith;
   term-length = length-replicate 16 zeroTerm;
-  course-length = length-replicate 64 zeroCourse;
+  weight-length = length-replicate {A = ℕ} 64 0;
+  list-length = length-replicate {A = ℕ} 64 0;
   term-sound = λ j h. absurd (omega arith);
   course-sound = λ i h. absurd (omega arith);
   term-blank = λ j h m. getD-replicate 16 j zeroTerm zeroTerm m;
-  course-blank = λ i h m. getD-replicate 64 i zeroCourse zeroCourse m;
+  course-blank = λ i h m. ap₂ courseOf (getD-replicate 64 i 0 0 m) (getD-replicate 64 i 0 0 m);
 }
 
 -- one term more, which is sound and for which there is room, while there is no course
@@ -200,7 +203,8 @@ module _ (y : Year) (t : Term) (b : Begun y) (room : y .terms < 16) where
     terms-most = omega arith;
     courses-most = b .courses-most;
     term-length = length-set (y .term) (y .terms) t ∙ b .term-length;
-    course-length = b .course-length;
+    weight-length = b .weight-length;
+    list-length = b .list-length;
     term-sound = λ j h. sound j h (ℕ-discrete j (y .terms));
     course-sound = λ i h. absurd (omega arith);
     term-blank = λ j h m. term-before j (λ q. omega arith) ∙ b .term-blank j (omega arith) m;
@@ -214,17 +218,21 @@ module _ (y : Year) (t : Term) (b : Begun y) (room : y .terms < 16) where
 -- one course more, which is sound beside the terms and for which there is room
 module _ (y : Year) (c : Course) (b : Begun y) (room : y .courses < 64) where
   pub course-added : (i : ℕ) → i ≡ y .courses → courseAt (addCourse y c) i ≡ c
-  course-added i q = rw q (getD-set-same (y .course) (y .courses) c zeroCourse (omega (arith, b .course-length)))
+  course-added i q =
+      let w = getD-set-same (y .weight) (y .courses) (c .weight .0) 0 (omega (arith, b .weight-length)) in
+      let l = getD-set-same (y .list) (y .courses) (c .list) 0 (omega (arith, b .list-length)) in
+      rw q (ap₂ courseOf w l)
 
   pub course-before : (i : ℕ) → (i ≡ y .courses → ⊥) → courseAt (addCourse y c) i ≡ courseAt y i
-  course-before i d = getD-set-other (y .course) (y .courses) i c zeroCourse d
+  course-before i d = ap₂ courseOf (getD-set-other (y .weight) (y .courses) i (c .weight .0) 0 d) (getD-set-other (y .list) (y .courses) i (c .list) 0 d)
 
   pub begun-course : CourseSound c (y .terms) → Begun (addCourse y c)
   begun-course s = record {
     terms-most = b .terms-most;
     courses-most = omega arith;
     term-length = b .term-length;
-    course-length = length-set (y .course) (y .courses) c ∙ b .course-length;
+    weight-length = length-set (y .weight) (y .courses) (c .weight .0) ∙ b .weight-length;
+    list-length = length-set (y .list) (y .courses) (c .list) ∙ b .list-length;
     term-sound = b .term-sound;
     course-sound = λ i h. sound i h (ℕ-discrete i (y .courses));
     term-blank = b .term-blank;
@@ -242,7 +250,8 @@ begun-sound y b some = record {
   terms-most = b .terms-most;
   courses-most = b .courses-most;
   term-length = b .term-length;
-  course-length = b .course-length;
+  weight-length = b .weight-length;
+  list-length = b .list-length;
   term-sound = b .term-sound;
   course-sound = b .course-sound;
   term-blank = b .term-blank;

@@ -7,12 +7,12 @@ use native.Mathlib.Nat.{add-zero}
 use native.Mathlib.Omega.{arith}
 use lib.Dec.{lit<}
 use lib.ListN.{length, getD, take, drop, length-drop}
-use lib.Seq.{ext-getD, length-take-le, getD-take, getD-drop, getD-set-same, getD-set-other, take-add, take-length}
+use lib.Seq.{ext-getD, length-take-le, getD-take, getD-drop, take-add, take-length}
 use borrow.Author.Tests.{eqb-true}
 use Rattle.theory.specs.Tab.{tab}
 use Rattle.theory.proofs.TabLaws.{length-tab, getD-tab}
 use Rattle.theory.proofs.TestLaws.{all-at}
-use Rattle.year.specs.Year.{courseOf, zeroTerm, zeroCourse}
+use Rattle.year.specs.Year.{courseOf}
 use Rattle.year.specs.declared.Term.{Term}
 use Rattle.year.specs.declared.Course.{Course}
 use Rattle.year.specs.declared.Year.{Year}
@@ -21,7 +21,7 @@ use Rattle.records.specs.Reading.{OfTerm, OfCourse, blankYear, addTerm, 
 use Rattle.records.specs.Writing.{termBytes, courseBytes, termBlock, courseBlock, joined, recordsOf}
 use Rattle.records.proofs.EntryLaws.{termIn, TermRead, CourseRead, record-term, record-course}
 use Rattle.records.proofs.LayLaws.{joined-more}
-use Rattle.records.proofs.GatherLaws.{gathered-keeps}
+use Rattle.records.proofs.GatherLaws.{gathered-keeps, Begun, term-added, term-before, course-added, course-before}
 use Rattle.records.proofs.ListLaws.{Front, front-start, front-term, front-course, list-read}
 
 -- ---- sixteen bytes of a list
@@ -58,43 +58,17 @@ module _ (s : List ℕ) (at : ℕ) (fits : at + 16 ≤ length s) (bytes : AllByt
   pub term-back : (n : ℕ) (t : Term) → letterAt s at ≡ 84 → TermRead s at n t → take 16 (drop at s) ≡ termBytes n t
   unfolding tab
   term-back n t e r =
-      let b0 = letter 84 e in
-      let b2 = high 2 (lit< tt) in
-      let b3 = low 2 (lit< tt) in
-      let b4 = high 4 (lit< tt) in
-      let b5 = low 4 (lit< tt) in
-      let b6 = high 6 (lit< tt) in
-      let b7 = low 6 (lit< tt) in
-      let b8 = high 8 (lit< tt) in
-      let b9 = low 8 (lit< tt) in
-      let z0 = blank-byte s at 10 0 (r .held .blank) (lit< tt) in
-      let z1 = blank-byte s at 10 1 (r .held .blank) (lit< tt) in
-      let z2 = blank-byte s at 10 2 (r .held .blank) (lit< tt) in
-      let z3 = blank-byte s at 10 3 (r .held .blank) (lit< tt) in
-      let z4 = blank-byte s at 10 4 (r .held .blank) (lit< tt) in
-      let z5 = blank-byte s at 10 5 (r .held .blank) (lit< tt) in
-      let is : tab 16 (byteAt s at) ≡ termBytes n (termIn s at) = cc (r .number) in
+      let z : (i : ℕ) → i < 6 → byteAt s at (10 + i) ≡ 0 = λ i. blank-byte s at 10 i (r .held .blank) in
+      let is : tab 16 (byteAt s at) ≡ termBytes n (termIn s at) =
+      cc (letter 84 e, r .number, high 2 (lit< tt), low 2 (lit< tt), high 4 (lit< tt), low 4 (lit< tt), high 6 (lit< tt), low 6 (lit< tt), high 8 (lit< tt), low 8 (lit< tt), z 0 (lit< tt), z 1 (lit< tt), z 2 (lit< tt), z 3 (lit< tt), z 4 (lit< tt), z 5 (lit< tt)) in
       taken-bytes s at 16 fits ∙ is ∙ ap (termBytes n) (r .held .holds)
 
   pub course-back : (n terms : ℕ) (c : Course) → letterAt s at ≡ 67 → CourseRead s at n terms c → take 16 (drop at s) ≡ courseBytes n c
   unfolding tab
   course-back n terms c e r =
-      let b0 = letter 67 e in
-      let b2 = high 2 (lit< tt) in
-      let b3 = low 2 (lit< tt) in
-      let b4 = high 4 (lit< tt) in
-      let b5 = low 4 (lit< tt) in
-      let z0 = blank-byte s at 6 0 (r .held .blank) (lit< tt) in
-      let z1 = blank-byte s at 6 1 (r .held .blank) (lit< tt) in
-      let z2 = blank-byte s at 6 2 (r .held .blank) (lit< tt) in
-      let z3 = blank-byte s at 6 3 (r .held .blank) (lit< tt) in
-      let z4 = blank-byte s at 6 4 (r .held .blank) (lit< tt) in
-      let z5 = blank-byte s at 6 5 (r .held .blank) (lit< tt) in
-      let z6 = blank-byte s at 6 6 (r .held .blank) (lit< tt) in
-      let z7 = blank-byte s at 6 7 (r .held .blank) (lit< tt) in
-      let z8 = blank-byte s at 6 8 (r .held .blank) (lit< tt) in
-      let z9 = blank-byte s at 6 9 (r .held .blank) (lit< tt) in
-      let is : tab 16 (byteAt s at) ≡ courseBytes n (courseOf (wordAt s at 2) (wordAt s at 4)) = cc (r .number) in
+      let z : (i : ℕ) → i < 10 → byteAt s at (6 + i) ≡ 0 = λ i. blank-byte s at 6 i (r .held .blank) in
+      let is : tab 16 (byteAt s at) ≡ courseBytes n (courseOf (wordAt s at 2) (wordAt s at 4)) =
+      cc (letter 67 e, r .number, high 2 (lit< tt), low 2 (lit< tt), high 4 (lit< tt), low 4 (lit< tt), z 0 (lit< tt), z 1 (lit< tt), z 2 (lit< tt), z 3 (lit< tt), z 4 (lit< tt), z 5 (lit< tt), z 6 (lit< tt), z 7 (lit< tt), z 8 (lit< tt), z 9 (lit< tt)) in
       taken-bytes s at 16 fits ∙ is ∙ ap (courseBytes n) (r .held .holds)
 
 -- ---- the records of a year with one more
@@ -104,27 +78,27 @@ unfolding joined
 joined-same f g zero h = refl
 joined-same f g (suc n) h = ap₂ _++_ (joined-same f g n (λ i l. h i (omega arith))) (h n (omega arith))
 
-records-term : (y : Year) (t : Term) → y .courses ≡ 0 → y .terms < length (y .term) → recordsOf (addTerm y t) ≡ recordsOf y ++ termBytes (y .terms) t
+records-term : (y : Year) (t : Term) → Begun y → y .terms < 16 → y .courses ≡ 0 → recordsOf (addTerm y t) ≡ recordsOf y ++ termBytes (y .terms) t
 unfolding recordsOf joined
-records-term y t none room =
+records-term y t b room none =
     let z = addTerm y t in
     let n = y .terms in
     let same : joined (termBlock z) n ≡ joined (termBlock y) n =
-    joined-same (termBlock z) (termBlock y) n (λ i l. ap (termBytes i) (getD-set-other (y .term) n i t zeroTerm (λ q. omega arith))) in
-    let new : termBlock z n ≡ termBytes n t = ap (termBytes n) (getD-set-same (y .term) n t zeroTerm room) in
+    joined-same (termBlock z) (termBlock y) n (λ i l. ap (termBytes i) (term-before y t b room i (λ q. omega arith))) in
+    let new : termBlock z n ≡ termBytes n t = ap (termBytes n) (term-added y t b room n refl) in
     rw none
     (append-nil (joined (termBlock z) (n + 1))
     ∙ joined-more (termBlock z) n
     ∙ ap₂ _++_ (same ∙ sym (append-nil (joined (termBlock y) n))) new)
 
-records-course : (y : Year) (c : Course) → y .courses < length (y .course) → recordsOf (addCourse y c) ≡ recordsOf y ++ courseBytes (y .courses) c
+records-course : (y : Year) (c : Course) → Begun y → y .courses < 64 → recordsOf (addCourse y c) ≡ recordsOf y ++ courseBytes (y .courses) c
 unfolding recordsOf
-records-course y c room =
+records-course y c b room =
     let z = addCourse y c in
     let n = y .courses in
     let same : joined (courseBlock z) n ≡ joined (courseBlock y) n =
-    joined-same (courseBlock z) (courseBlock y) n (λ i l. ap (courseBytes i) (getD-set-other (y .course) n i c zeroCourse (λ q. omega arith))) in
-    let new : courseBlock z n ≡ courseBytes n c = ap (courseBytes n) (getD-set-same (y .course) n c zeroCourse room) in
+    joined-same (courseBlock z) (courseBlock y) n (λ i l. ap (courseBytes i) (course-before y c b room i (λ q. omega arith))) in
+    let new : courseBlock z n ≡ courseBytes n c = ap (courseBytes n) (course-added y c b room n refl) in
     ap (λ (l : List ℕ). joined (termBlock y) (y .terms) ++ l) (joined-more (courseBlock z) n ∙ ap₂ _++_ same new)
     ∙ sym (append-assoc (joined (termBlock y) (y .terms)) (joined (courseBlock y) n) (courseBytes n c))
 
@@ -146,22 +120,20 @@ module _ (s : List ℕ) (bytes : AllBytes s) where
 
   back-term : (k : ℕ) (y : Year) (t : Term) → Back k y → recordIn s k y ≡ OfTerm t → Back (suc k) (addTerm y t)
   back-term k y t p e =
-      let r = record-term s (k * 16) (y .terms) (y .courses) t e in
-      let room : y .terms < length (y .term) = omega (arith, r .2 .room, p .0 .begun .term-length) in (
+      let r = record-term s (k * 16) (y .terms) (y .courses) t e in (
         front-term s k y t (p .0) e,
         λ h.
-            records-term y t (r .1) room
+            records-term y t (p .0 .begun) (r .2 .room) (r .1)
             ∙ ap (λ (l : List ℕ). l ++ termBytes (y .terms) t) (p .1 (omega arith))
             ∙ sym (further k (termBytes (y .terms) t) (term-back s (k * 16) (omega arith) bytes (y .terms) t (r .0) (r .2))),
       )
 
   back-course : (k : ℕ) (y : Year) (c : Course) → Back k y → recordIn s k y ≡ OfCourse c → Back (suc k) (addCourse y c)
   back-course k y c p e =
-      let r = record-course s (k * 16) (y .terms) (y .courses) c e in
-      let room : y .courses < length (y .course) = omega (arith, r .2 .room, p .0 .begun .course-length) in (
+      let r = record-course s (k * 16) (y .terms) (y .courses) c e in (
         front-course s k y c (p .0) e,
         λ h.
-            records-course y c room
+            records-course y c (p .0 .begun) (r .2 .room)
             ∙ ap (λ (l : List ℕ). l ++ courseBytes (y .courses) c) (p .1 (omega arith))
             ∙ sym (further k (courseBytes (y .courses) c) (course-back s (k * 16) (omega arith) bytes (y .courses) (y .terms) c (r .0) (r .2))),
       )

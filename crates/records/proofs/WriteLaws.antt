@@ -6,8 +6,7 @@ use mathlib.Core.Path.{_≡_, refl, ap, _∙_}
 use native.Mathlib.Nat.{zero-add}
 use native.Mathlib.Omega.{arith}
 use lib.Dec.{leb}
-use lib.ListN.{length, take, drop, length-append}
-use lib.Seq.{take-append-seam, drop-append-seam}
+use lib.ListN.{length, drop, length-append}
 use borrow.Author.Tests.{le-leb, lt-leb}
 use Rattle.theory.specs.Choice.{choose}
 use Rattle.year.specs.Sound.{isSound, Sound}
@@ -65,14 +64,6 @@ laid-all y b s h =
 pub written-is : (y : Year) (b : List ℕ) → Sound y → length (recordsOf y) ≤ length b → written y b ≡ recordsOf y ++ drop (length (recordsOf y)) b
 unfolding written
 written-is y b s h = rw (sound-to y s, le-leb (length (recordsOf y)) (length b) h) refl
-
-pub written-front : (y : Year) (b : List ℕ) → Sound y → length (recordsOf y) ≤ length b → take (length (recordsOf y)) (written y b) ≡ recordsOf y
-written-front y b s h =
-    ap (take (length (recordsOf y))) (written-is y b s h) ∙ take-append-seam (recordsOf y) (drop (length (recordsOf y)) b)
-
-pub written-behind : (y : Year) (b : List ℕ) → Sound y → length (recordsOf y) ≤ length b → drop (length (recordsOf y)) (written y b) ≡ drop (length (recordsOf y)) b
-written-behind y b s h =
-    ap (drop (length (recordsOf y))) (written-is y b s h) ∙ drop-append-seam (recordsOf y) (drop (length (recordsOf y)) b)
 
 -- refused, the buffer is as it was
 pub unwritten : (y : Year) (b : List ℕ) → (writeAnswer y (length b) ≡ Done → ⊥) → written y b ≡ b

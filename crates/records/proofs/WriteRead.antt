@@ -6,20 +6,20 @@ use mathlib.Core.Path.{_≡_, refl, sym, ap, _∙_}
 use native.Mathlib.Nat.{add-zero, add-suc, div-eq-of-lt}
 use native.Mathlib.Numerals.{add-one}
 use native.Mathlib.Omega.{arith}
-use native.Mathlib.Decide.{ℕ-discrete, decLt}
+use native.Mathlib.Decide.{ℕ-discrete}
 use lib.Dec.{eqb, ltb, lit<}
-use lib.ListN.{length, getD, set, replicate, length-replicate, getD-replicate, List·getD-append}
-use lib.Seq.{ext-getD, getD-append-add, getD-set-other}
+use lib.ListN.{length, getD, replicate, length-replicate, getD-replicate, List·getD-append}
+use lib.Seq.{getD-append-add}
 use borrow.Author.Tests.{lt-ltb, le-ltb, le-leb, eq-eqb, ne-eqb}
-use Rattle.theory.proofs.TabLaws.{fill, length-fill, getD-fill}
+use Rattle.theory.proofs.TabLaws.{fill, fill-front, tab-getD}
 use Rattle.theory.specs.Tests.{all}
-use Rattle.year.specs.Year.{termAt, courseAt, zeroTerm, zeroCourse}
+use Rattle.year.specs.Year.{termAt, courseAt, weight, list, zeroTerm}
 use Rattle.year.specs.Sound.{TermSound, CourseSound, Sound}
 use Rattle.year.specs.declared.Term.{Term}
 use Rattle.year.specs.declared.Course.{Course}
 use Rattle.year.specs.declared.Year.{Year}
 use Rattle.records.specs.Bytes.{letterAt, byteAt}
-use Rattle.records.specs.Reading.{OfTerm, OfCourse, termByItself, courseBy, termRecord, courseRecord, recordAt, blankYear, addTerm, addCourse, done, taken, recordIn, readTo, readList}
+use Rattle.records.specs.Reading.{OfTerm, OfCourse, termByItself, courseBy, termRecord, courseRecord, recordAt, blankYear, done, taken, recordIn, readTo, readList}
 use Rattle.records.specs.Writing.{termBytes, courseBytes, termBlock, courseBlock, joined, recordsOf}
 use Rattle.records.proofs.LayLaws.{length-joined}
 use Rattle.records.proofs.GatherLaws.{gathered-zero, gathered-more}
@@ -125,43 +125,26 @@ course-reads s at n terms c h sound room some =
 
 -- its first a terms and b courses
 abbrev front : Year → ℕ → ℕ → Year
-front y a b = record { terms = a; courses = b; term = fill (termAt y) (replicate 16 zeroTerm) a; course = fill (courseAt y) (replicate 64 zeroCourse) b }
-
-front-term : (y : Year) (j : ℕ) → addTerm (front y j 0) (termAt y j) ≡ front y (suc j) 0
-unfolding fill
-front-term y j = λ i. record { terms = add-one j i; courses = 0; term = set (fill (termAt y) (replicate 16 zeroTerm) j) j (termAt y j); course = replicate 64 zeroCourse }
-
-front-course : (y : Year) (a i : ℕ) → addCourse (front y a i) (courseAt y i) ≡ front y a (suc i)
-unfolding fill
-front-course y a k = λ i. record { terms = a; courses = add-one k i; term = fill (termAt y) (replicate 16 zeroTerm) a; course = set (fill (courseAt y) (replicate 64 zeroCourse) k) k (courseAt y k) }
-
-getD-past : {A : Type 0} (f : ℕ → A) (l : List A) (d : A) (n k : ℕ) → n ≤ k → getD (fill f l n) k d ≡ getD l k d
-unfolding fill
-getD-past f l d zero k h = refl
-getD-past f l d (suc n) k h = getD-set-other (fill f l n) n k (f n) d (λ q. omega arith) ∙ getD-past f l d n k (omega arith)
+front y a b = record {
+  terms = a;
+  courses = b;
+  term = fill (termAt y) (replicate 16 zeroTerm) a;
+  weight = fill (weight y) (replicate 64 0) b;
+  list = fill (list y) (replicate 64 0) b;
+}
 
 -- a list of m entries whose entries from n on are x
 filled : {A : Type 0} (l : List A) (x : A) (m n : ℕ) → length l ≡ m → n ≤ m → ((k : ℕ) → n ≤ k → k < m → getD l k x ≡ x) → fill (λ k. getD l k x) (replicate m x) n ≡ l
-filled {A} l x m n long le past =
-    ext-getD x (fill f (replicate m x) n) l (all-long ∙ sym long) (λ k h. at k (omega (arith, all-long)) (decLt k n))
-  where
-    f : ℕ → A
-    f k = getD l k x
-
-    all-long : length (fill f (replicate m x) n) ≡ m
-    all-long = length-fill f (replicate m x) n ∙ length-replicate m x
-
-    at : (k : ℕ) → k < m → Dec (k < n) → getD (fill f (replicate m x) n) k x ≡ getD l k x
-    at k h (yes q) = getD-fill f (replicate m x) x n k q (omega (arith, length-replicate m x))
-    at k h (no q) =
-        let r : n ≤ k = omega (arith, q) in
-        getD-past f (replicate m x) x n k r ∙ getD-replicate m k x x h ∙ sym (past k r h)
+filled l x m n long le past =
+    fill-front (λ k. getD l k x) (replicate m x) x m n (length-replicate m x) le (λ k h q. getD-replicate m k x x q ∙ sym (past k h q))
+    ∙ tab-getD l x m long
 
 front-all : (y : Year) → Sound y → front y (y .terms) (y .courses) ≡ y
 front-all y s =
     let t = filled (y .term) zeroTerm 16 (y .terms) (s .term-length) (s .terms-most) (s .term-blank) in
-    let c = filled (y .course) zeroCourse 64 (y .courses) (s .course-length) (s .courses-most) (s .course-blank) in
-    λ i. record { terms = y .terms; courses = y .courses; term = t i; course = c i }
+    let w = filled (y .weight) 0 64 (y .courses) (s .weight-length) (s .courses-most) (λ i h m. ap (λ (c : Course). c .weight .0) (s .course-blank i h m)) in
+    let l = filled (y .list) 0 64 (y .courses) (s .list-length) (s .courses-most) (λ i h m. ap (λ (c : Course). c .list) (s .course-blank i h m)) in
+    λ i. record { terms = y .terms; courses = y .courses; term = t i; weight = w i; list = l i }
 
 -- ---- the list
 
@@ -172,7 +155,7 @@ module _ (y : Year) (s : Sound y) where
   reads-terms (suc j) h =
       let is : recordAt (recordsOf y) (j * 16) j 0 ≡ OfTerm (termAt y j) =
       term-reads (recordsOf y) (j * 16) j (termAt y j) (λ r m. term-byte y j r (omega arith) m) (s .term-sound j (omega arith)) (omega (arith, s .terms-most)) in
-      gathered-more (recordIn (recordsOf y)) blankYear j (front y j 0) (reads-terms j (omega arith)) ∙ ap (taken (front y j 0) j) is ∙ ap done (front-term y j)
+      gathered-more (recordIn (recordsOf y)) blankYear j (front y j 0) (reads-terms j (omega arith)) ∙ ap (taken (front y j 0) j) is ∙ rw add-one
 
   reads-courses : (i : ℕ) → i ≤ y .courses → readTo (recordsOf y) (y .terms + i) ≡ done (front y (y .terms) i)
   unfolding fill
@@ -184,7 +167,7 @@ module _ (y : Year) (s : Sound y) where
       ap (readTo (recordsOf y)) (add-suc m i)
       ∙ gathered-more (recordIn (recordsOf y)) blankYear (m + i) (front y m i) (reads-courses i (omega arith))
       ∙ ap (taken (front y m i) (m + i)) is
-      ∙ ap done (front-course y m i)
+      ∙ rw add-one
 
   pub write-read : readList (recordsOf y) ≡ done y
   unfolding readList

@@ -5,7 +5,8 @@ use mathlib.Core.List.{List, [], _∷_, _++_}
 use mathlib.Core.Path.{_≡_, refl}
 use lib.ListN.{length, replicate}
 use Rattle.theory.specs.Tests.{all}
-use Rattle.year.specs.Year.{courseOf, emptyYear}
+use Rattle.year.specs.Year.{courseOf}
+use Rattle.year.specs.Doors.{emptyYear}
 use Rattle.year.specs.Sound.{isSound}
 use Rattle.year.specs.Examples.{yearE}
 use Rattle.records.specs.declared.Fault.the-variants as fault

@@ -5,7 +5,8 @@ use mathlib.Core.List.{List}
 use lib.Dec.{eqb, leb, ltb}
 use lib.ListN.{length, replicate, set}
 use Rattle.theory.specs.Choice.{choose}
-use Rattle.year.specs.Year.{termOf, courseOf, zeroTerm, zeroCourse, emptyYear}
+use Rattle.year.specs.Year.{termOf, courseOf, zeroTerm}
+use Rattle.year.specs.Doors.{emptyYear}
 use Rattle.year.specs.declared.Term.{Term}
 use Rattle.year.specs.declared.Course.{Course}
 use Rattle.year.specs.declared.Year.{Year}
@@ -92,14 +93,20 @@ recordAt s at terms courses =
 
 -- no term yet, no course
 abbrev pub blankYear : Year
-blankYear = record { terms = 0; courses = 0; term = replicate 16 zeroTerm; course = replicate 64 zeroCourse }
+blankYear = record { terms = 0; courses = 0; term = replicate 16 zeroTerm; weight = replicate 64 0; list = replicate 64 0 }
 
 -- one term more, one course more
 abbrev pub addTerm : Year → Term → Year
-addTerm y t = record { terms = y .terms + 1; courses = y .courses; term = set (y .term) (y .terms) t; course = y .course }
+addTerm y t = record { terms = y .terms + 1; courses = y .courses; term = set (y .term) (y .terms) t; weight = y .weight; list = y .list }
 
 abbrev pub addCourse : Year → Course → Year
-addCourse y c = record { terms = y .terms; courses = y .courses + 1; term = y .term; course = set (y .course) (y .courses) c }
+addCourse y c = record {
+  terms = y .terms;
+  courses = y .courses + 1;
+  term = y .term;
+  weight = set (y .weight) (y .courses) (c .weight .0);
+  list = set (y .list) (y .courses) (c .list);
+}
 
 abbrev pub done : Year → Received
 done y = record { answer = Done; year = y }

@@ -5,6 +5,7 @@ use crate::TERM_LETTER;
 use year::Course;
 use year::Term;
 use year::Year;
+use year::pairs;
 ghost use mathlib.Core.Path.{_≡_};
 ghost use Prim.Native.Nat.{_+_, _*_, _≤_, _<_};
 ghost use lib.ListN.{length};
@@ -90,6 +91,7 @@ pub fn put_courses(y: Year, buf: &mut [u8])
     ensures { λ _. ⌜ now (buf .exit) ≡ laid (now (buf .entry)) (y .terms * 16) (joined (courseBlock y) (y .courses)) ⌝ }
 {
     for i in 0..y.courses {
-        put(buf, (y.terms + i) * RECORD, course_bytes(i, y.course[i]));
+        let c = pairs::course_of(y.weight[i], y.list[i]);
+        put(buf, (y.terms + i) * RECORD, course_bytes(i, c));
     }
 }

@@ -122,7 +122,8 @@ pub fn read(s: &[u8]) -> Received
             match entries::read_course(s, at, y.courses, y.terms) {
                 AsCourse::Good(c) => {
                     let i = y.courses;
-                    y.course[i] = c;
+                    y.weight[i] = c.weight.0;
+                    y.list[i] = c.list;
                     y.courses = i + 1;
                 }
                 AsCourse::Faulty(f) => {

@@ -10,15 +10,14 @@ use borrow.Author.Tests.{eqb-true, eq-eqb, ne-eqb}
 use Rattle.theory.proofs.TestLaws.{and-true, and-of}
 use Rattle.theory.specs.Bits.{has}
 use Rattle.theory.proofs.BitLaws.{has-power, has-struck}
-use Rattle.year.specs.Year.{termAt, courseAt, list, lists, withTerm, withList, placed, struck}
+use Rattle.year.specs.Year.{termAt, courseAt, list, lists}
+use Rattle.year.specs.Doors.{withTerm, withList, placed, struck}
 use Rattle.year.specs.Tight.{creditsWithin, countsWithin}
 use Rattle.year.specs.Plans.{Placing, creditsIn, countIn, Plan}
 use Rattle.year.specs.Sound.{Sound}
 use Rattle.year.specs.declared.Term.{Term}
-use Rattle.year.specs.declared.Course.{Course}
 use Rattle.year.specs.declared.Year.{Year}
-use Rattle.year.proofs.DoorLaws.{term-same, term-other, course-same, course-other}
-use Rattle.rules.proofs.Alike.{alike-list, credits-alike}
+use Rattle.year.proofs.DoorLaws.{term-same, term-other, list-same, list-other}
 
 -- ---- the bounds of a term
 
@@ -93,28 +92,25 @@ module _ (y : Year) (j a b : ℕ) (p : Placing) (s : Sound y) (l : j < y .terms)
 -- ---- the list of a course
 
 module _ (y : Year) (i l : ℕ) (p : Placing) (s : Sound y) (m : i < y .courses) where
-  credits-same : (k : ℕ) → creditsIn (withList y i l) p k ≡ creditsIn y p k
-  credits-same = credits-alike y (withList y i l) p (alike-list y i l s m)
-
   same-course : lists (courseAt (withList y i l) i) (p i) ≡ has l (p i)
-  same-course = ap (λ (c : Course). lists c (p i)) (course-same y i l (omega (arith, s)))
+  same-course = ap (λ x. has x (p i)) (list-same y i l (omega (arith, s)))
 
   list-to : Plan y p → has l (p i) ≡ true → Plan (withList y i l) p
-  list-to h new = plan-of (withList y i l) p (h .within) (λ a n. go a n (ℕ-discrete a i)) (λ k n. rw (credits-same k) (holds-of y p h k n))
+  list-to h new = plan-of (withList y i l) p (h .within) (λ a n. go a n (ℕ-discrete a i)) (λ k n. holds-of y p h k n)
     where
       go : (a : ℕ) → a < y .courses → Dec (a ≡ i) → lists (courseAt (withList y i l) a) (p a) ≡ true
       go a n (yes e) = rw e (same-course ∙ new)
-      go a n (no ne) = rw (course-other y i l a ne) (h .listed a n)
+      go a n (no ne) = rw (list-other y i l a ne) (h .listed a n)
 
   list-at : Plan (withList y i l) p → has l (p i) ≡ true
   list-at h = sym same-course ∙ h .listed i m
 
   list-from : Plan (withList y i l) p → lists (courseAt y i) (p i) ≡ true → Plan y p
-  list-from h old = plan-of y p (h .within) (λ a n. go a n (ℕ-discrete a i)) (λ k n. rw (credits-same k) at (holds-of (withList y i l) p h k n))
+  list-from h old = plan-of y p (h .within) (λ a n. go a n (ℕ-discrete a i)) (λ k n. holds-of (withList y i l) p h k n)
     where
       go : (a : ℕ) → a < y .courses → Dec (a ≡ i) → lists (courseAt y a) (p a) ≡ true
       go a n (yes e) = rw e old
-      go a n (no ne) = rw (course-other y i l a ne) at (h .listed a n)
+      go a n (no ne) = rw (list-other y i l a ne) at (h .listed a n)
 
 module _ (y : Year) (i j : ℕ) (p : Placing) (s : Sound y) (m : i < y .courses) (e : lists (courseAt y i) j ≡ true) where
   -- the plans of a year with a course in one term of its list are those that put it there

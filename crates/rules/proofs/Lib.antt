@@ -3,7 +3,6 @@ pub mod Leeway
 pub mod Narrows
 pub mod Steps
 pub mod PlansKept
-pub mod Alike
 pub mod DoorPlans
 pub mod Reading
 pub mod PlanSums

@@ -13,13 +13,13 @@ use Rattle.theory.specs.Sum.{pick}
 use Rattle.theory.proofs.SumLaws.{sum-cong}
 use Rattle.theory.specs.Bits.{has}
 use Rattle.theory.proofs.BitLaws.{has-power, has-struck}
-use Rattle.year.specs.Year.{courseAt, weight, list, lists, isFixed, isOpen, lowCredits, highCredits, lowCount, highCount, placed, struck}
+use Rattle.year.specs.Year.{courseAt, weight, list, lists, isFixed, isOpen, lowCredits, highCredits, lowCount, highCount}
+use Rattle.year.specs.Doors.{placed, struck}
 use Rattle.year.specs.Sums.{fixedCredits, possibleCredits, fixedCount, openCount}
 use Rattle.year.specs.Plans.{Placing, Plan}
 use Rattle.year.specs.Sound.{Sound}
-use Rattle.year.specs.declared.Course.{Course}
 use Rattle.year.specs.declared.Year.{Year}
-use Rattle.year.proofs.DoorLaws.{course-same, course-other}
+use Rattle.year.proofs.DoorLaws.{list-same, list-other}
 use Rattle.rules.specs.Step.{live, dead, judged, overCourses}
 use Rattle.rules.specs.Lists.{verdict3, rule3Course, rule3, full, needed, verdict10, rule10Course, rule10}
 use Rattle.rules.specs.declared.Verdict.{Verdict}
@@ -118,9 +118,9 @@ module _ (z : Year) (i j : ℕ) (s : Sound z) (l : i < z .courses) (o : isOpen (
 
       go : (a : ℕ) → Dec (a ≡ i) → isFixed (courseAt (struck z i j) a) j ≡ isFixed (courseAt z a) j
       go a (yes q) =
-          rw (q, course-same z i (list z i - 2 ^ j) (omega (arith, s)), open-facts (courseAt z i) j o .1)
+          rw (q, list-same z i (list z i - 2 ^ j) (omega (arith, s)), open-facts (courseAt z i) j o .1)
           (never (eqb (list z i - 2 ^ j) (2 ^ j)) refl)
-      go a (no d) = ap (λ (c : Course). isFixed c j) (course-other z i (list z i - 2 ^ j) a d)
+      go a (no d) = ap (λ x. eqb x (2 ^ j)) (list-other z i (list z i - 2 ^ j) a d)
 
   -- a course placed in j lists it as before
   both-placed : fixedCount (placed z i j) j + openCount (placed z i j) j ≡ fixedCount z j + openCount z j
@@ -132,9 +132,9 @@ module _ (z : Year) (i j : ℕ) (s : Sound z) (l : i < z .courses) (o : isOpen (
     where
       go : (a : ℕ) → Dec (a ≡ i) → lists (courseAt (placed z i j) a) j ≡ lists (courseAt z a) j
       go a (yes q) =
-          rw (q, course-same z i (2 ^ j) (omega (arith, s)), open-facts (courseAt z i) j o .0)
+          rw (q, list-same z i (2 ^ j) (omega (arith, s)), open-facts (courseAt z i) j o .0)
           (has-power j j ∙ eq-eqb j j refl)
-      go a (no d) = ap (λ (c : Course). lists c j) (course-other z i (2 ^ j) a d)
+      go a (no d) = ap (λ x. has x j) (list-other z i (2 ^ j) a d)
 
 module _ (z : Year) (i j : ℕ) (s : Sound z) (l : i < z .courses) (m : j < z .terms) where
   course10 : (f n : Bool) → Asked f n j z → PlansKept z (rule10Course f n j z i) × Asked f n j (rule10Course f n j z i .year)

@@ -1,19 +1,22 @@
 -- What every step of a rule leaves: a sound year of the same terms, courses and weights, no bound looser and no list longer,
 -- and less to narrow where it altered something. What holds of each step holds of steps in a row.
-use Prim.Native.Nat.{ℕ, _+_, _-_, _≤_, _<_}
+use Prim.Native.Nat.{ℕ, _+_, _≤_, _<_}
 use mathlib.Core.Bool.{Bool, true, false, _||_}
 use mathlib.Core.Logic.{_↔_}
-use mathlib.Core.Path.{_≡_, refl, ap, ap₂, _∙_, fun-ext}
+use mathlib.Core.List.{List}
+use mathlib.Core.Path.{_≡_, refl, ap, ap₂, _∙_}
 use native.Mathlib.Omega.{arith}
 use native.Mathlib.Nat.{le-refl, le-trans}
 use lib.Dec.{eqb}
+use lib.ListN.{getD}
 use Rattle.theory.proofs.ChoiceLaws.{choose-case}
 use Rattle.theory.specs.Sum.{pick, sum}
 use Rattle.theory.proofs.TestLaws.{or-false}
 use Rattle.theory.proofs.FoldLaws.{fold-keeps}
 use Rattle.theory.specs.Order.{heavier, lighter, order}
-use Rattle.year.specs.Year.{weight, lowCredits, highCredits, lowCount, highCount}
+use Rattle.year.specs.Year.{lowCredits, highCredits, lowCount, highCount}
 use Rattle.year.specs.Sums.{allCredits}
+use Rattle.year.specs.Plans.{Placing, creditsIn, countIn}
 use Rattle.year.specs.Sound.{Sound}
 use Rattle.year.specs.declared.Year.{Year}
 use Rattle.rules.specs.Narrower.{Narrower}
@@ -26,7 +29,7 @@ narrower-self y s = record {
   sound = s;
   terms-same = refl;
   courses-same = refl;
-  weight-same = λ i. refl;
+  weight-same = refl;
   low-credits = λ k. le-refl (lowCredits y k);
   high-credits = λ k. le-refl (highCredits y k);
   low-count = λ k. le-refl (lowCount y k);
@@ -39,7 +42,7 @@ narrower-then x y z a b = record {
   sound = b .sound;
   terms-same = b .terms-same ∙ a .terms-same;
   courses-same = b .courses-same ∙ a .courses-same;
-  weight-same = λ i. b .weight-same i ∙ a .weight-same i;
+  weight-same = b .weight-same ∙ a .weight-same;
   low-credits = λ k. le-trans (a .low-credits k) (b .low-credits k);
   high-credits = λ k. le-trans (b .high-credits k) (a .high-credits k);
   low-count = λ k. le-trans (a .low-count k) (b .low-count k);
@@ -96,14 +99,22 @@ next-dead f s k e = rw e
 
 -- ---- what depends on weights alone stays
 
-pub down-same : (y z : Year) → z .courses ≡ y .courses → ((i : ℕ) → weight z i ≡ weight y i) → down z ≡ down y
+pub down-same : (y z : Year) → z .courses ≡ y .courses → z .weight ≡ y .weight → down z ≡ down y
 unfolding down
-down-same y z c w = ap₂ (λ (f : ℕ → ℕ) (n : ℕ). order (heavier f) n) (fun-ext w) c
+down-same y z c w = ap₂ (λ (v : List ℕ) (n : ℕ). order (heavier (λ i. getD v i 0)) n) w c
 
-pub up-same : (y z : Year) → z .courses ≡ y .courses → ((i : ℕ) → weight z i ≡ weight y i) → up z ≡ up y
+pub up-same : (y z : Year) → z .courses ≡ y .courses → z .weight ≡ y .weight → up z ≡ up y
 unfolding up
-up-same y z c w = ap₂ (λ (f : ℕ → ℕ) (n : ℕ). order (lighter f) n) (fun-ext w) c
+up-same y z c w = ap₂ (λ (v : List ℕ) (n : ℕ). order (lighter (λ i. getD v i 0)) n) w c
 
-pub credits-same : (y z : Year) → z .courses ≡ y .courses → ((i : ℕ) → weight z i ≡ weight y i) → allCredits z ≡ allCredits y
+pub credits-same : (y z : Year) → z .courses ≡ y .courses → z .weight ≡ y .weight → allCredits z ≡ allCredits y
 unfolding allCredits
-credits-same y z c w = ap₂ (λ (f : ℕ → ℕ) (n : ℕ). sum n f) (fun-ext w) c
+credits-same y z c w = ap₂ (λ (v : List ℕ) (n : ℕ). sum n (λ i. getD v i 0)) w c
+
+-- and so does what a placing puts into a term
+module _ (y z : Year) (w : Narrower y z) (p : Placing) (k : ℕ) where
+  pub credits-in-same : creditsIn z p k ≡ creditsIn y p k
+  credits-in-same = ap₂ (λ (v : List ℕ) (n : ℕ). sum n (λ i. pick (eqb (p i) k) (getD v i 0))) (w .weight-same) (w .courses-same)
+
+  pub count-in-same : countIn z p k ≡ countIn y p k
+  count-in-same = ap (λ n. sum n (λ i. pick (eqb (p i) k) 1)) (w .courses-same)

@@ -6,7 +6,8 @@ use native.Mathlib.Omega.{arith}
 use lib.Dec.{ltb}
 use borrow.Author.Tests.{le-ltb}
 use Rattle.theory.proofs.ChoiceLaws.{choose-case}
-use Rattle.year.specs.Year.{termAt, lowCredits, highCredits, lowCount, highCount, withTerm}
+use Rattle.year.specs.Year.{termAt, lowCredits, highCredits, lowCount, highCount}
+use Rattle.year.specs.Doors.{withTerm}
 use Rattle.year.specs.Tight.{creditsWithin, countsWithin}
 use Rattle.year.specs.Plans.{Placing, creditsIn, countIn, Plan}
 use Rattle.year.specs.Sound.{Sound}

@@ -33,8 +33,8 @@ module _ (y : Year) (p : Placing) (plan : Plan y p) (s : Sound y) where
   several k l =
       omega (
         arith,
-        sum-add (y .courses) (λ i. pick (eqb (p i) k) (pick (not (placedAt y i)) (weight y i))) (fixedWeight y k),
-        sum-mono (y .courses) (λ i. pick (eqb (p i) k) (pick (not (placedAt y i)) (weight y i)) + fixedWeight y k i) (λ i. pick (eqb (p i) k) (weight y i))
+        sum-add (y .courses) (λ i. pick (eqb (p i) k) (pick (not (placedAt y i)) (weight y i))) (fixedWeight (y .weight) (y .list) k),
+        sum-mono (y .courses) (λ i. pick (eqb (p i) k) (pick (not (placedAt y i)) (weight y i)) + fixedWeight (y .weight) (y .list) k i) (λ i. pick (eqb (p i) k) (weight y i))
             (λ i h. point (isFixed (courseAt y i) k) (placedAt y i) (eqb (p i) k) (weight y i)
             (λ e. any-of 16 (isFixed (courseAt y i)) k (omega (arith, s)) e) (λ e. eq-eqb (p i) k (fix y p plan k i h e))),
       )

@@ -15,14 +15,15 @@ use Rattle.theory.specs.Tests.{any}
 use Rattle.theory.proofs.TestLaws.{and-true, or-false}
 use Rattle.theory.specs.Bits.{has}
 use Rattle.theory.proofs.BitLaws.{has-struck, has-power, power-below}
-use Rattle.year.specs.Year.{termOf, zeroTerm, termAt, courseAt, list, lists, isFixed, isOpen, lowCredits, highCredits, lowCount, highCount, withTerm, withList, placed, struck}
+use Rattle.year.specs.Year.{termOf, zeroTerm, termAt, courseAt, list, lists, isFixed, isOpen, lowCredits, highCredits, lowCount, highCount}
+use Rattle.year.specs.Doors.{withTerm, withList, placed, struck}
 use Rattle.year.specs.Sums.{fixedCount, openCount}
 use Rattle.year.specs.Sound.{Sound, TermSound}
 use Rattle.year.specs.Tight.{creditsWithin, countsWithin}
 use Rattle.year.specs.declared.Term.{Term}
 use Rattle.year.specs.declared.Course.{Course}
 use Rattle.year.specs.declared.Year.{Year}
-use Rattle.year.proofs.DoorLaws.{term-same, term-other, with-term-sound, course-same, course-other, weight-same, placed-sound, struck-sound}
+use Rattle.year.proofs.DoorLaws.{term-same, term-other, with-term-sound, list-same, list-other, placed-sound, struck-sound}
 use Rattle.rules.specs.Step.{step, live, dead, outcome, put, judged, overTerms, Step}
 use Rattle.rules.specs.Bounds.{rule1, rule2, rule4, rule5}
 use Rattle.rules.specs.Lists.{verdict3, rule3Course, rule3, full, needed, verdict10, rule10Course, rule10}
@@ -101,7 +102,7 @@ counts-tighter r fails t a b s =
 
 -- a term's own bounds put there again
 with-own : (y : Year) (j : ℕ) → withTerm y j (termAt y j) ≡ y
-with-own y j = λ i. record { terms = y .terms; courses = y .courses; term = set-getD (y .term) j zeroTerm i; course = y .course }
+with-own y j = λ i. record { terms = y .terms; courses = y .courses; term = set-getD (y .term) j zeroTerm i; weight = y .weight; list = y .list }
 
 module _ (y : Year) (j : ℕ) (o : Outcome) (s : Sound y) (h : j < y .terms) (w : OutcomeTighter (termAt y j) o) where
   at : (k : ℕ) (P : Term → Term → Type 0) → P (termAt y j) (o .term) → (P (termAt y k) (termAt y k)) → P (termAt y k) (termAt (withTerm y j (o .term)) k)
@@ -127,7 +128,7 @@ module _ (y : Year) (j : ℕ) (o : Outcome) (s : Sound y) (h : j < y .terms) (w 
       sound = with-term-sound y j (o .term) s h (w .sound);
       terms-same = refl;
       courses-same = refl;
-      weight-same = λ i. refl;
+      weight-same = refl;
       low-credits = λ k. at k (λ t u. t .low .0 ≤ u .low .0) (w .low) (le-refl (lowCredits y k));
       high-credits = λ k. at k (λ t u. u .high .0 ≤ t .high .0) (w .high) (le-refl (highCredits y k));
       low-count = λ k. at k (λ t u. t .least .0 ≤ u .least .0) (w .least) (le-refl (lowCount y k));
@@ -146,11 +147,11 @@ module _ (y : Year) (i l : ℕ) (s : Sound y) (h : i < y .courses) (sound : Soun
   list-falls : leeway (withList y i l) + 1 ≤ leeway y
   unfolding leeway
   list-falls =
-      let new : choicesAt (withList y i l) i ≡ choices l = ap (λ (c : Course). choices (c .list)) (course-same y i l (omega (arith, s))) in
+      let new : choicesAt (withList y i l) i ≡ choices l = ap choices (list-same y i l (omega (arith, s))) in
       omega (
         arith,
         fewer,
-        sum-change (y .courses) i (choicesAt (withList y i l)) (choicesAt y) h (λ k m ne. ap (λ (c : Course). choices (c .list)) (course-other y i l k ne)),
+        sum-change (y .courses) i (choicesAt (withList y i l)) (choicesAt y) h (λ k m ne. ap choices (list-other y i l k ne)),
       )
 
   pub narrows-list : Narrows y (step (withList y i l) true 0)
@@ -159,7 +160,7 @@ module _ (y : Year) (i l : ℕ) (s : Sound y) (h : i < y .courses) (sound : Soun
       sound = sound;
       terms-same = refl;
       courses-same = refl;
-      weight-same = λ k. weight-same y i l k (omega (arith, s));
+      weight-same = refl;
       low-credits = λ k. le-refl (lowCredits y k);
       high-credits = λ k. le-refl (highCredits y k);
       low-count = λ k. le-refl (lowCount y k);
@@ -171,8 +172,8 @@ module _ (y : Year) (i l : ℕ) (s : Sound y) (h : i < y .courses) (sound : Soun
   }
     where
       named : (a k : ℕ) → Dec (a ≡ i) → lists (courseAt (withList y i l) a) k ≡ true → lists (courseAt y a) k ≡ true
-      named a k (yes q) e = rw q (less k (rw (q, course-same y i l (omega (arith, s))) at e))
-      named a k (no ne) e = rw (course-other y i l a ne) at e
+      named a k (yes q) e = rw q (less k (rw (q, list-same y i l (omega (arith, s))) at e))
+      named a k (no ne) e = rw (list-other y i l a ne) at e
 
 module _ (y : Year) (i j : ℕ) (s : Sound y) (h : i < y .courses) (l : j < y .terms) (e : isOpen (courseAt y i) j ≡ true) where
   is-listed : lists (courseAt y i) j ≡ true

@@ -2,7 +2,7 @@
 use Prim.Native.Nat.{ℕ, _≤_}
 use mathlib.Core.Bool.{true}
 use mathlib.Core.Path.{_≡_}
-use Rattle.year.specs.Year.{courseAt, weight, lists, lowCredits, highCredits, lowCount, highCount}
+use Rattle.year.specs.Year.{courseAt, lists, lowCredits, highCredits, lowCount, highCount}
 use Rattle.year.specs.Sound.{Sound}
 use Rattle.year.specs.declared.Year.{Year}
 
@@ -11,7 +11,7 @@ pub record Narrower (y z : Year) : Type 0 where
   pub sound : Sound z
   pub terms-same : z .terms ≡ y .terms
   pub courses-same : z .courses ≡ y .courses
-  pub weight-same : (i : ℕ) → weight z i ≡ weight y i
+  pub weight-same : z .weight ≡ y .weight
   pub low-credits : (k : ℕ) → lowCredits y k ≤ lowCredits z k
   pub high-credits : (k : ℕ) → highCredits z k ≤ highCredits y k
   pub low-count : (k : ℕ) → lowCount y k ≤ lowCount z k

@@ -4,7 +4,7 @@ use mathlib.Core.Bool.{Bool, true, false, _||_}
 use lib.Dec.{eqb}
 use Rattle.theory.specs.Choice.{choose}
 use Rattle.theory.specs.Fold.{fold}
-use Rattle.year.specs.Year.{withTerm, placed, struck}
+use Rattle.year.specs.Doors.{withTerm, placed, struck}
 use Rattle.year.specs.declared.Term.{Term}
 use Rattle.year.specs.declared.Tight.{Tight}
 use Rattle.year.specs.declared.Year.{Year}

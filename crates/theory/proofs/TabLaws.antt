@@ -1,11 +1,11 @@
 -- Laws of a list by its entries, and the loop that fills an array entry by entry.
 use Prim.Native.Nat.{ℕ, zero, suc, _+_, _≤_, _<_}
-use mathlib.Core.List.{List, _∷_}
+use mathlib.Core.List.{List, _∷_, map}
 use mathlib.Core.Path.{_≡_, refl, ap, ap₂, sym, _∙_}
 use native.Mathlib.Numerals.{add-one}
 use native.Mathlib.Decide.{ℕ-discrete, decLt}
 use native.Mathlib.Omega.{arith}
-use lib.ListN.{length, getD, set, length-set}
+use lib.ListN.{length, getD, set, replicate, length-set, length-replicate}
 use lib.Seq.{ext-getD, getD-set-same, getD-set-other}
 use Rattle.theory.specs.Tab.{tab}
 
@@ -62,9 +62,25 @@ fill-front f l d n m e h past =
 pub fill-all : {A : Type 0} (f : ℕ → A) (l : List A) (d : A) (n : ℕ) → length l ≡ n → fill f l n ≡ tab n f
 fill-all f l d n e = fill-front f l d n n e (omega arith) (λ k h b. absurd (omega arith))
 
+-- an array of n equal entries, filled below k
+module _ {A : Type 0} (z : A) (n : ℕ) (f : ℕ → A) (s : List A) (k : ℕ) (e : s ≡ fill f (replicate n z) k) where
+  pub filling-long : length s ≡ n
+  filling-long = ap length e ∙ length-fill f (replicate n z) k ∙ length-replicate n z
+
+  pub filling-more : (x : A) → x ≡ f k → set s k x ≡ fill f (replicate n z) (k + 1)
+  filling-more x q = ap₂ (λ r v. set r k v) e q ∙ sym (fill-more f (replicate n z) k)
+
+  pub filling-ends : k ≡ n → s ≡ tab n f
+  filling-ends is = e ∙ ap (fill f (replicate n z)) is ∙ fill-all f (replicate n z) z n (length-replicate n z)
+
 -- a list of n entries is the list of its entries
 pub tab-getD : {A : Type 0} (l : List A) (d : A) (n : ℕ) → length l ≡ n → tab n (λ k. getD l k d) ≡ l
 tab-getD l d n e = ext-getD d (tab n (λ k. getD l k d)) l (length-tab n _ ∙ sym e) (λ k h. getD-tab n _ d k (omega (arith, length-tab n (λ k. getD l k d))))
+
+pub map-tab : {A B : Type 0} (n : ℕ) (f : A → B) (g : ℕ → A) → map f (tab n g) ≡ tab n (λ k. f (g k))
+unfolding tab
+map-tab zero f g = refl
+map-tab (suc n) f g = ap (λ l. f (g 0) ∷ l) (map-tab n f (λ k. g (suc k)))
 
 -- two functions that agree below n have the same list
 pub tab-cong : {A : Type 0} (n : ℕ) (f g : ℕ → A) → ((k : ℕ) → k < n → f k ≡ g k) → tab n f ≡ tab n g

@@ -1,2 +1,2 @@
--- Laws about a year in parts.
-pub mod PartLaws
+-- Laws about the columns of a year.
+pub mod ColumnLaws

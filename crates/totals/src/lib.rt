@@ -1,6 +1,5 @@
 // The sums of a term: p, P, the number fixed and the number open, in one pass over the courses; what else is counted or measured over a year.
 pub mod measure;
-pub mod parts;
 
 use year::Course;
 use year::Courses;
@@ -8,21 +7,15 @@ use year::Credits;
 use year::Sums;
 use year::Year;
 use year::doors;
+use year::pairs;
 ghost use mathlib.Core.Path.{_≡_};
 ghost use Prim.Native.Nat.{ℕ, _≤_, _<_, _^_};
 ghost use lib.ListN.{length, getD};
 ghost use Rattle.theory.specs.Tab.{tab};
 ghost use Rattle.year.specs.Year.{isFixed, isOpen};
 ghost use Rattle.year.specs.Sound.{Sound};
-ghost use Rattle.totals.specs.Parts.{coursesOnly};
 ghost use Rattle.year.specs.SumsOf.{sumsTo, sumsAt, noSums, sumsWith};
 ghost use Rattle.year.specs.Sums.{isPlaced, allPlaced, allCredits};
-
-// The courses of a year in two arrays.
-pub struct Columns {
-    pub weight: [u32; Year::COURSES],
-    pub list: [u16; Year::COURSES],
-}
 
 // Term j is the course's only one.
 pub fn is_fixed(c: Course, j: usize) -> bool
@@ -37,7 +30,7 @@ pub fn is_open(c: Course, j: usize) -> bool
     requires { ⌜ j < 16 ⌝ }
     ensures { λ r. ⌜ r ≡ isOpen c j ⌝ }
 {
-    doors::lists(c, j) & !is_fixed(c, j)
+    doors::lists(c.list, j) & !is_fixed(c, j)
 }
 
 fn nothing() -> Sums
@@ -69,7 +62,7 @@ fn with_course(s: Sums, c: Course, j: usize) -> Sums
             free: free,
         };
     }
-    if doors::lists(c, j) {
+    if doors::lists(c.list, j) {
         return Sums {
             fixed: fixed,
             possible: Credits(s.possible.0 + w),
@@ -80,15 +73,15 @@ fn with_course(s: Sums, c: Course, j: usize) -> Sums
     s
 }
 
-// The sums of term j over the first n courses of two arrays.
+// The sums of term j over the first n courses of two columns.
 fn sums_in(weight: &[u32], list: &[u16], n: usize, j: usize) -> Sums
     requires { ⌜ (n ≤ 64) × (n ≤ length (now weight)) × (n ≤ length (now list)) × (j < 16) ⌝ }
     requires { ⌜ ((i : ℕ) → i < n → getD (now weight) i 0 ≤ 1000) ⌝ }
-    ensures { λ r. ⌜ r ≡ sumsTo (coursesOnly (now (weight .entry)) (now (list .entry))) j n ⌝ }
+    ensures { λ r. ⌜ r ≡ sumsTo (now (weight .entry)) (now (list .entry)) n j ⌝ }
 {
     let mut s = nothing();
     for i in 0..n {
-        s = with_course(s, parts::course(weight, list, i), j);
+        s = with_course(s, pairs::course_in(weight, list, i), j);
     }
     s
 }
@@ -97,7 +90,7 @@ fn sums_in(weight: &[u32], list: &[u16], n: usize, j: usize) -> Sums
 pub fn sums_over(weight: &[u32], list: &[u16], m: usize, n: usize) -> [Sums; Year::TERMS]
     requires { ⌜ (n ≤ 64) × (n ≤ length (now weight)) × (n ≤ length (now list)) × (m ≤ 16) ⌝ }
     requires { ⌜ ((i : ℕ) → i < n → (getD (now weight) i 0 ≤ 1000) × (getD (now list) i 0 < 2 ^ m)) ⌝ }
-    ensures { λ r. ⌜ r ≡ tab 16 (λ j. sumsTo (coursesOnly (now (weight .entry)) (now (list .entry))) j n) ⌝ }
+    ensures { λ r. ⌜ r ≡ tab 16 (sumsTo (now (weight .entry)) (now (list .entry)) n) ⌝ }
 {
     let z = nothing();
     let mut s = [z; Year::TERMS];
@@ -112,9 +105,8 @@ pub fn sums_of(y: Year) -> [Sums; Year::TERMS]
     requires { ⌜ Sound y ⌝ }
     ensures { λ r. ⌜ r ≡ tab 16 (sumsAt y) ⌝ }
 {
-    let p = parts::apart(y);
-    let w = p.weight;
-    let l = p.list;
+    let w = y.weight;
+    let l = y.list;
     sums_over(&w, &l, y.terms, y.courses)
 }
 
@@ -136,7 +128,7 @@ pub fn all_placed(y: Year) -> bool
 {
     let mut good = true;
     for i in 0..y.courses {
-        good = good & is_placed(y.course[i]);
+        good = good & is_placed(pairs::course_of(y.weight[i], y.list[i]));
     }
     good
 }
@@ -148,7 +140,7 @@ pub fn all_credits(y: Year) -> Credits
 {
     let mut total = Credits(0);
     for i in 0..y.courses {
-        total.0 += y.course[i].weight.0;
+        total.0 += y.weight[i];
     }
     total
 }

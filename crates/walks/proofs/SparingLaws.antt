@@ -1,19 +1,20 @@
 -- Spares in arrays of sixteen: how they stand against the list of a course without the walk's own term, and how they are set up.
-use Prim.Native.Nat.{ℕ, _+_, _-_, _/_, _%_, _^_, _<_}
+use Prim.Native.Nat.{ℕ, _-_, _/_, _%_, _^_, _<_}
 use mathlib.Core.Bool.{Bool, true, false, _&&_}
 use mathlib.Core.List.{List}
 use mathlib.Core.Path.{_≡_, refl, sym, ap, ap₂, fun-ext, _∙_}
 use native.Mathlib.Omega.{arith}
 use lib.Dec.{eqb}
-use lib.ListN.{length, replicate, getD, set, length-replicate}
+use lib.ListN.{length, getD, set}
 use lib.Seq.{getD-set-same, getD-set-other}
 use borrow.Author.Tests.{eqb-true, eqb-false}
 use Rattle.theory.specs.Sum.{pick}
 use Rattle.theory.specs.Tests.{any}
 use Rattle.theory.specs.Tab.{tab}
-use Rattle.theory.proofs.TabLaws.{fill, getD-tab, fill-more, length-fill, fill-all, tab-cong, set-tab}
+use Rattle.theory.proofs.TabLaws.{getD-tab, tab-cong, set-tab}
 use Rattle.theory.proofs.BitLaws.{has-struck}
 use Rattle.year.specs.Year.{zeroTerm, lists, lowCount}
+use Rattle.frame.specs.Bounds.{leastIn}
 use Rattle.year.specs.SumsOf.{sumsAt}
 use Rattle.year.specs.Sums.{fixedCount, openCount}
 use Rattle.year.specs.declared.Course.{Course}
@@ -21,7 +22,6 @@ use Rattle.year.specs.declared.Sums.{Sums}
 use Rattle.year.specs.declared.Term.{Term}
 use Rattle.year.specs.declared.Year.{Year}
 use Rattle.year.proofs.SumLaws.{sums-read}
-use Rattle.totals.specs.Parts.{leastIn}
 use Rattle.rules.specs.Spares.{spare, spares, blocked, charged}
 use Rattle.walks.specs.Sparing.{freeIn, placedIn, talliesOf, spareFrom, spareIn, stuck, chargedAt}
 
@@ -45,21 +45,6 @@ module _ (s : List ℕ) (c : Course) (j : ℕ) (e : lists c j ≡ true) where
   pub charged-is : tab 16 (chargedAt s (c .list - 2 ^ j)) ≡ charged j s c
   unfolding charged
   charged-is = ap (tab 16) (fun-ext (λ k. ap (λ b. getD s k 0 - pick b 1) (has-struck (c .list) j k e)))
-
--- ---- an array of sixteen, filled entry by entry
-
-abbrev pub zeros : List ℕ
-zeros = replicate 16 0
-
-module _ (f : ℕ → ℕ) (s : List ℕ) (k : ℕ) (e : s ≡ fill f zeros k) where
-  pub filling-long : length s ≡ 16
-  filling-long = ap length e ∙ length-fill f zeros k ∙ length-replicate {A = ℕ} 16 0
-
-  pub filling-more : (x : ℕ) → x ≡ f k → set s k x ≡ fill f zeros (k + 1)
-  filling-more x q = ap₂ (λ r v. set r k v) e q ∙ sym (fill-more f zeros k)
-
-  pub filling-ends : k ≡ 16 → s ≡ tab 16 f
-  filling-ends is = e ∙ ap (fill f zeros) is ∙ fill-all f zeros 0 16 (length-replicate {A = ℕ} 16 0)
 
 -- ---- spares set up
 

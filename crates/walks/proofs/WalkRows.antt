@@ -7,22 +7,21 @@ use lib.ListN.{length, getD, take}
 use Rattle.theory.specs.Tab.{tab}
 use Rattle.year.specs.Year.{termAt}
 use Rattle.year.specs.Sums.{fixedCredits, fixedCount}
-use Rattle.year.specs.SumsOf.{sumsTo, sumsAt}
+use Rattle.year.specs.SumsOf.{sumsTo, sumsAt, sumsIn}
 use Rattle.year.specs.Sound.{Sound, TermSound}
 use Rattle.year.specs.declared.Sums.{Sums}
 use Rattle.year.specs.declared.Year.{Year}
 use Rattle.year.proofs.SumLaws.{sums-read}
-use Rattle.totals.specs.Parts.{coursesOnly, coursesFrom, termIn, sumsIn}
 use Rattle.rules.specs.Step.{Step, overTerms}
 use Rattle.rules.specs.Round.{bounded}
 use Rattle.rules.specs.Spares.{spares, walkOf, down, up, rule6, rule7, rule8, rule9}
 use Rattle.rules.specs.declared.Outcome.{Outcome}
 use Rattle.rules.proofs.Steps.{narrows-6, narrows-7, narrows-8, narrows-9}
 use Rattle.frame.specs.State.{held, yearIn, stepIn}
-use Rattle.frame.specs.Bounds.{boundsOver}
+use Rattle.frame.specs.Bounds.{boundsOver, termIn}
 use Rattle.frame.specs.declared.State.{State}
 use Rattle.frame.specs.declared.Bounds.{Bounds}
-use Rattle.frame.proofs.StateLaws.{sums-held, list-long, lists-fit}
+use Rattle.frame.proofs.StateLaws.{sums-held}
 use Rattle.frame.proofs.BoundsOnly.{Tightens, BoundsOnly, sums-same}
 use Rattle.frame.proofs.BoundsAt.{BoundsAt, at-long, at-sound, at-next}
 use Rattle.orders.specs.Orders.{ordersOf}
@@ -66,14 +65,14 @@ order-fits MostLoad = down-fits
 module _ (y : Year) (u : List Sums) (e : u ≡ tab 16 (sumsAt y)) (j : ℕ) (h : j < 16) where
   -- a walk starts with the definition's spares and sums
   begins : (r : WalkRule) (o : List ℕ)
-      → walkedAt r u (y .course) o (y .courses) (y .term) j
-      ≡ endedOf r (termAt y j) (walkOver (y .course) j (untilOf r (termAt y j)) (take (y .courses) o) (begunOf (spares y) (sumsAt y j)))
+      → walkedAt r u (y .weight) (y .list) o (y .courses) (y .term) j
+      ≡ endedOf r (termAt y j) (walkOver (y .weight) (y .list) j (untilOf r (termAt y j)) (take (y .courses) o) (begunOf (spares y) (sumsAt y j)))
   begins r o =
-      ap₂ (λ s x. endedOf r (termAt y j) (walkOver (y .course) j (untilOf r (termAt y j)) (take (y .courses) o) (begunOf s x)))
+      ap₂ (λ s x. endedOf r (termAt y j) (walkOver (y .weight) (y .list) j (untilOf r (termAt y j)) (take (y .courses) o) (begunOf s x)))
       (spares-are y u e)
       (sums-read y u e j h)
 
-  walk-is : (r : WalkRule) → walkedAt r u (y .course) (orderOf r (ordersOf y)) (y .courses) (y .term) j ≡ ruleOf r y j
+  walk-is : (r : WalkRule) → walkedAt r u (y .weight) (y .list) (orderOf r (ordersOf y)) (y .courses) (y .term) j ≡ ruleOf r y j
   unfolding rule6 rule7 rule8 rule9 walkOf sumsAt fixedCredits fixedCount
   walk-is LeastCount = begins LeastCount (down y)
   walk-is MostCount = begins MostCount (up y)
@@ -83,7 +82,6 @@ module _ (y : Year) (u : List Sums) (e : u ≡ tab 16 (sumsAt y)) (j : ℕ) (h :
 -- ---- a state before rules 6 to 9, with the orders of its year
 
 pub record Ready (w : List ℕ) (s : State) (o : Orders) : Type 0 where
-  pub long : length w ≡ 64
   pub sound : Sound (yearIn w s)
   pub is-held : s ≡ held (stepIn w s)
   pub orders-are : o ≡ ordersOf (yearIn w s)
@@ -91,17 +89,18 @@ pub record Ready (w : List ℕ) (s : State) (o : Orders) : Type 0 where
 module _ {w : List ℕ} {s : State} {o : Orders} (a : Ready w s o) where
   -- the walk of rule r at a term of the year with other bounds
   at-hand : (r : WalkRule) (y : Year) (j : ℕ) → BoundsOnly (yearIn w s) y
-      → walkedAt r (s .sums) (coursesFrom w (s .list)) (orderOf r o) (s .courses) (y .term) j
-      ≡ walkedAt r (s .sums) (y .course) (orderOf r (ordersOf y)) (y .courses) (y .term) j
+      → walkedAt r (s .sums) w (s .list) (orderOf r o) (s .courses) (y .term) j
+      ≡ walkedAt r (s .sums) (y .weight) (y .list) (orderOf r (ordersOf y)) (y .courses) (y .term) j
   at-hand r y j k =
-      let cs = sym (k .course-same) in
+      let v = sym (k .narrower .weight-same) in
+      let m = sym (k .list-same) in
       let n = sym (k .narrower .courses-same) in
       let d = a .orders-are ∙ sym (orders-weights (yearIn w s) y (k .narrower .courses-same) (k .narrower .weight-same)) in
-      λ i. walkedAt r (s .sums) (cs i) (orderOf r (d i)) (n i) (y .term) j
+      λ i. walkedAt r (s .sums) (v i) (m i) (orderOf r (d i)) (n i) (y .term) j
 
   -- rule r leads from the bounds of a step to those of the next
   pub row : (r : WalkRule) {b c : Bounds} {q : Step} → BoundsAt (stepIn w s) b q
-      → c ≡ boundsOver (walkedAt r (s .sums) (coursesFrom w (s .list)) (orderOf r o) (s .courses)) b (s .terms)
+      → c ≡ boundsOver (walkedAt r (s .sums) w (s .list) (orderOf r o) (s .courses)) b (s .terms)
       → BoundsAt (stepIn w s) c (overTerms (bounded (ruleOf r)) q)
   row r {b} {c} {q} g =
       at-next (stepIn w s) b q g _ (ruleOf r) (tightens r)
@@ -111,7 +110,7 @@ module _ {w : List ℕ} {s : State} {o : Orders} (a : Ready w s o) where
   fits : (r : WalkRule) → OrderFits (orderOf r o) (s .courses)
   fits r = subst (λ d. OrderFits (orderOf r d) (s .courses)) (sym (a .orders-are)) (order-fits r (yearIn w s) (a .sound))
 
-  sums-are : (k : ℕ) → k < 16 → sumsIn (s .sums) k ≡ sumsTo (coursesOnly w (s .list)) k (s .courses)
+  sums-are : (k : ℕ) → k < 16 → sumsIn (s .sums) k ≡ sumsTo w (s .list) (s .courses) k
   unfolding sumsAt
   sums-are = sums-read (yearIn w s) (s .sums) (sums-held w s (a .is-held))
 
@@ -121,17 +120,16 @@ module _ {w : List ℕ} {s : State} {o : Orders} (a : Ready w s o) where
       × (((k : ℕ) → k < 16 → TermSound (termIn (b .term) k))
       × (((s .courses ≤ 64) × (s .courses ≤ length w) × (s .courses ≤ length (s .list)) × (s .courses ≤ length (orderOf r o)))
       × ((((k : ℕ) → k < s .courses → getD (orderOf r o) k 0 < s .courses) × ((i : ℕ) → i < s .courses → getD w i 0 ≤ 1000))
-      × (((k : ℕ) → k < 16 → sumsIn (s .sums) k ≡ sumsTo (coursesOnly w (s .list)) k (s .courses))
+      × (((k : ℕ) → k < 16 → sumsIn (s .sums) k ≡ sumsTo w (s .list) (s .courses) k)
       × (t ≡ talliesOf (s .sums))))))
   walk-asks r {b} {q} g e =
-      let n : s .courses ≤ 64 = a .sound .courses-most in
       let f = fits r in (
         (a .sound .terms-most, at-long (stepIn w s) b q g),
         (
           at-sound (stepIn w s) b q g,
           (
-            (n, omega (arith, n, a .long), omega (arith, n, list-long w s (a .is-held)), omega (arith, n, f .long)),
-            ((f .small, λ i h. lists-fit w s (a .sound) i h .0), (sums-are, e)),
+            (a .sound .courses-most, omega (arith, a .sound), omega (arith, a .sound), omega (arith, a .sound, f .long)),
+            ((f .small, λ i h. a .sound .course-sound i h .weight-most), (sums-are, e)),
           ),
         ),
       )

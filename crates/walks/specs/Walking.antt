@@ -1,4 +1,4 @@
--- The walk of rules 6 to 9, course by course over an array, and what each rule makes of it.
+-- The walk of rules 6 to 9, course by course over two columns, and what each rule makes of it.
 use Prim.Native.Nat.{ℕ, _+_}
 use mathlib.Core.Bool.{Bool, false, _||_}
 use mathlib.Core.List.{List}
@@ -8,12 +8,13 @@ use Rattle.theory.specs.Choice.{choose}
 use Rattle.theory.specs.Tab.{tab}
 use Rattle.theory.specs.Order.{keep}
 use Rattle.theory.specs.Walk.{Table, Reached, walk}
-use Rattle.year.specs.Year.{zeroCourse, isOpen}
+use Rattle.year.specs.Year.{courseIn, isOpen}
+use Rattle.frame.specs.Bounds.{termIn}
 use Rattle.year.specs.Tight.{creditsWithin, countsWithin}
 use Rattle.year.specs.declared.Term.{Term}
 use Rattle.year.specs.declared.Course.{Course}
 use Rattle.year.specs.declared.Sums.{Sums}
-use Rattle.totals.specs.Parts.{termIn, sumsIn}
+use Rattle.year.specs.SumsOf.{sumsIn}
 use Rattle.rules.specs.Step.{outcome}
 use Rattle.rules.specs.Spares.{blocked, charged, stops}
 use Rattle.rules.specs.declared.Outcome.{Outcome}
@@ -38,23 +39,18 @@ stepped w c j u =
     (walkAs (charged j (w .spare) c) (w .credits .0 + c .weight .0) (w .count .0 + 1) false))
     w
 
--- ---- the courses of an array
+-- ---- the courses of two columns, the weights w and the lists l
 
-abbrev pub courseIn : List Course → ℕ → Course
-courseIn cs i = getD cs i zeroCourse
+abbrev pub openIn : List ℕ → List ℕ → ℕ → ℕ → Bool
+openIn w l j i = isOpen (courseIn w l i) j
 
-abbrev pub weightIn : List Course → ℕ → ℕ
-weightIn cs i = courseIn cs i .weight .0
+abbrev pub tableIn : List ℕ → List ℕ → ℕ → Table (List ℕ)
+tableIn w l j = record { blocked = λ s i. blocked j s (courseIn w l i); charge = λ s i. charged j s (courseIn w l i) }
 
-abbrev pub openIn : List Course → ℕ → ℕ → Bool
-openIn cs j i = isOpen (courseIn cs i) j
-
-abbrev pub tableIn : List Course → ℕ → Table (List ℕ)
-tableIn cs j = record { blocked = λ s i. blocked j s (courseIn cs i); charge = λ s i. charged j s (courseIn cs i) }
-
--- the walk over the open courses of a list
-abbrev pub walkOver : List Course → ℕ → Until → List ℕ → Walk → Reached
-walkOver cs j u o w = walk (tableIn cs j) (weightIn cs) (stops u) (keep (openIn cs j) o) (w .spare) (w .credits .0) (w .count .0)
+-- the walk a over the open courses of an order
+abbrev pub walkOver : List ℕ → List ℕ → ℕ → Until → List ℕ → Walk → Reached
+walkOver w l j u o a =
+    walk (tableIn w l j) (λ i. getD w i 0) (stops u) (keep (openIn w l j) o) (a .spare) (a .credits .0) (a .count .0)
 
 abbrev pub reached : Walk → Reached
 reached w = record { credits = w .credits .0; count = w .count .0 }
@@ -77,6 +73,6 @@ endedOf LeastLoad t w = outcome 8 (ltb (w .count) (t .least .0)) t (creditsWithi
 endedOf MostLoad t w = outcome 9 false t (creditsWithin t (t .low .0) (w .credits))
 
 -- at term j of an array: the walk over the first n courses of an order, with spares set up afresh
-abbrev pub walkedAt : WalkRule → List Sums → List Course → List ℕ → ℕ → List Term → ℕ → Outcome
-walkedAt rule u cs o n t j =
-    endedOf rule (termIn t j) (walkOver cs j (untilOf rule (termIn t j)) (take n o) (begunOf (tab 16 (spareIn t u)) (sumsIn u j)))
+abbrev pub walkedAt : WalkRule → List Sums → List ℕ → List ℕ → List ℕ → ℕ → List Term → ℕ → Outcome
+walkedAt rule u w l o n t j =
+    endedOf rule (termIn t j) (walkOver w l j (untilOf rule (termIn t j)) (take n o) (begunOf (tab 16 (spareIn t u)) (sumsIn u j)))

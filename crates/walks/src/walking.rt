@@ -6,7 +6,6 @@ use crate::spares;
 use frame::Bounds;
 use rules::Outcome;
 use rules::Until;
-use totals::parts;
 use year::Course;
 use year::Courses;
 use year::Credits;
@@ -14,16 +13,16 @@ use year::Sums;
 use year::Term;
 use year::Year;
 use year::doors;
+use year::pairs;
 use year::tighter;
 ghost use mathlib.Core.Path.{_≡_};
 ghost use mathlib.Core.Bool.{false};
 ghost use Prim.Native.Nat.{ℕ, _+_, _≤_, _<_};
 ghost use lib.ListN.{length, getD, take};
-ghost use Rattle.year.specs.SumsOf.{sumsTo};
+ghost use Rattle.year.specs.SumsOf.{sumsTo, sumsIn};
 ghost use Rattle.year.specs.Sound.{TermSound};
-ghost use Rattle.totals.specs.Parts.{coursesOnly, coursesFrom, termIn, sumsIn};
 ghost use Rattle.rules.specs.Spares.{stops};
-ghost use Rattle.frame.specs.Bounds.{boundsOver};
+ghost use Rattle.frame.specs.Bounds.{boundsOver, termIn};
 ghost use Rattle.walks.specs.Sparing.{talliesOf};
 ghost use Rattle.walks.specs.Walking.{stepped, walkOver, reached, begunOf, untilOf, endedOf, walkedAt};
 
@@ -83,12 +82,17 @@ fn walked(
     requires { ⌜ (n ≤ 64) × (n ≤ length (now weight)) × (n ≤ length (now list)) × (n ≤ length (now order)) × (j < 16) ⌝ }
     requires { ⌜ (w .credits .0 ≤ 64000) × (w .count .0 ≤ 64) × (w .done ≡ false) ⌝ }
     requires { ⌜ ((k : ℕ) → k < n → getD (now order) k 0 < n) × ((i : ℕ) → i < n → getD (now weight) i 0 ≤ 1000) ⌝ }
-    ensures { λ r. ⌜ reached r ≡ walkOver (coursesFrom (now (weight .entry)) (now (list .entry))) j until (take n (now (order .entry))) w ⌝ }
+    ensures { λ r. ⌜ reached r ≡ walkOver (now (weight .entry)) (now (list .entry)) j until (take n (now (order .entry))) w ⌝ }
 {
     let mut z = w;
     let mut k = 0;
     while (k < n) & !z.done {
-        z = walk_step(z, parts::course(weight, list, order[k] as usize), j, until);
+        z = walk_step(
+            z,
+            pairs::course_in(weight, list, order[k] as usize),
+            j,
+            until,
+        );
         k += 1;
     }
     z
@@ -160,8 +164,8 @@ fn by_walk(
 ) -> Outcome
     requires { ⌜ (n ≤ 64) × (n ≤ length (now weight)) × (n ≤ length (now list)) × (n ≤ length (now order)) × (j < 16) ⌝ }
     requires { ⌜ ((k : ℕ) → k < n → getD (now order) k 0 < n) × ((i : ℕ) → i < n → getD (now weight) i 0 ≤ 1000) ⌝ }
-    requires { ⌜ u ≡ sumsTo (coursesOnly (now weight) (now list)) j n ⌝ }
-    ensures { λ r. ⌜ r ≡ endedOf rule t (walkOver (coursesFrom (now (weight .entry)) (now (list .entry))) j (untilOf rule t) (take n (now (order .entry))) (begunOf spare u)) ⌝ }
+    requires { ⌜ u ≡ sumsTo (now weight) (now list) n j ⌝ }
+    ensures { λ r. ⌜ r ≡ endedOf rule t (walkOver (now (weight .entry)) (now (list .entry)) j (untilOf rule t) (take n (now (order .entry))) (begunOf spare u)) ⌝ }
 {
     let w = begun(spare, u);
     if u.free.0 == 0 {
@@ -190,9 +194,9 @@ pub fn walk_rule(
     requires { ⌜ ((k : ℕ) → k < 16 → TermSound (termIn (b .term) k)) ⌝ }
     requires { ⌜ (n ≤ 64) × (n ≤ length (now weight)) × (n ≤ length (now list)) × (n ≤ length (now order)) ⌝ }
     requires { ⌜ ((k : ℕ) → k < n → getD (now order) k 0 < n) × ((i : ℕ) → i < n → getD (now weight) i 0 ≤ 1000) ⌝ }
-    requires { ⌜ ((k : ℕ) → k < 16 → sumsIn sums k ≡ sumsTo (coursesOnly (now weight) (now list)) k n) ⌝ }
+    requires { ⌜ ((k : ℕ) → k < 16 → sumsIn sums k ≡ sumsTo (now weight) (now list) n k) ⌝ }
     requires { ⌜ tallies ≡ talliesOf sums ⌝ }
-    ensures { λ r. ⌜ r ≡ boundsOver (walkedAt rule sums (coursesFrom (now (weight .entry)) (now (list .entry))) (now (order .entry)) n) b m ⌝ }
+    ensures { λ r. ⌜ r ≡ boundsOver (walkedAt rule sums (now (weight .entry)) (now (list .entry)) (now (order .entry)) n) b m ⌝ }
 {
     let mut z = b;
     let term = b.term;

@@ -9,7 +9,7 @@ use types.Run.{OneOf, miss}
 use borrow.Author.Tests.{leb-false}
 use Rattle.theory.specs.Choice.{choose}
 use Rattle.theory.proofs.TestLaws.{or-false}
-use Rattle.year.specs.Year.{withTerm}
+use Rattle.year.specs.Doors.{withTerm}
 use Rattle.year.specs.Sound.{isSound, Sound}
 use Rattle.year.specs.Narrow.{answered, checked, noSuch, boundOf}
 use Rattle.year.specs.Numbers.{narrowingNumber}

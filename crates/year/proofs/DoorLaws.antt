@@ -8,10 +8,10 @@ use lib.ListN.{length, length-set}
 use lib.Seq.{getD-set-same, getD-set-other}
 use lib.Pow.{pow-pos}
 use Rattle.theory.proofs.BitLaws.{has-le, power-below}
-use Rattle.year.specs.Year.{termAt, courseAt, zeroTerm, zeroCourse, courseOf, weight, list, lists, withTerm, withList, placed, struck}
+use Rattle.year.specs.Year.{termAt, courseAt, zeroTerm, courseOf, weight, list, lists}
+use Rattle.year.specs.Doors.{withTerm, withList, placed, struck}
 use Rattle.year.specs.Sound.{Sound, TermSound, CourseSound}
 use Rattle.year.specs.declared.Term.{Term}
-use Rattle.year.specs.declared.Course.{Course}
 use Rattle.year.specs.declared.Year.{Year}
 
 -- ---- the bounds of term j replaced
@@ -34,7 +34,8 @@ module _ (y : Year) (j : ℕ) (t : Term) (s : Sound y) (h : j < y .terms) (sound
         terms-most = s .terms-most;
         courses-most = s .courses-most;
         term-length = length-set (y .term) j t ∙ s .term-length;
-        course-length = s .course-length;
+        weight-length = s .weight-length;
+        list-length = s .list-length;
         term-sound = λ k m. term k m (ℕ-discrete k j);
         course-sound = s .course-sound;
         term-blank = λ k m n. term-other y j t k (λ e. absurd (omega arith)) ∙ s .term-blank k m n;
@@ -43,26 +44,18 @@ module _ (y : Year) (j : ℕ) (t : Term) (s : Sound y) (h : j < y .terms) (sound
 
 -- ---- the list of course i replaced
 
-pub course-same : (y : Year) (i l : ℕ) → i < length (y .course) → courseAt (withList y i l) i ≡ courseOf (weight y i) l
-course-same y i l h = getD-set-same (y .course) i (courseOf (weight y i) l) zeroCourse h
+pub list-same : (y : Year) (i l : ℕ) → i < length (y .list) → list (withList y i l) i ≡ l
+list-same y i l h = getD-set-same (y .list) i l 0 h
 
-pub course-other : (y : Year) (i l k : ℕ) → (k ≡ i → ⊥) → courseAt (withList y i l) k ≡ courseAt y k
-course-other y i l k ne = getD-set-other (y .course) i k (courseOf (weight y i) l) zeroCourse ne
-
--- no weight is altered
-pub weight-same : (y : Year) (i l k : ℕ) → i < length (y .course) → weight (withList y i l) k ≡ weight y k
-weight-same y i l k h = go (ℕ-discrete k i)
-  where
-    go : Dec (k ≡ i) → weight (withList y i l) k ≡ weight y k
-    go (yes e) = rw e (ap (λ (c : Course). c .weight .0) (course-same y i l h))
-    go (no ne) = ap (λ (c : Course). c .weight .0) (course-other y i l k ne)
+pub list-other : (y : Year) (i l k : ℕ) → (k ≡ i → ⊥) → list (withList y i l) k ≡ list y k
+list-other y i l k ne = getD-set-other (y .list) i k l 0 ne
 
 module _ (y : Year) (i l : ℕ) (s : Sound y) (h : i < y .courses) (some : 1 ≤ l) (within : l < 2 ^ y .terms) where
   course : (k : ℕ) → k < y .courses → Dec (k ≡ i) → CourseSound (courseAt (withList y i l) k) (y .terms)
   course k m (yes e) =
-      rw (e, course-same y i l (omega (arith, s)))
+      rw (e, list-same y i l (omega (arith, s)))
       (record { weight-least = s .course-sound i h .weight-least; weight-most = s .course-sound i h .weight-most; list-some = some; list-within = within })
-  course k m (no ne) = rw (course-other y i l k ne) (s .course-sound k m)
+  course k m (no ne) = rw (list-other y i l k ne) (s .course-sound k m)
 
   pub with-list-sound : Sound (withList y i l)
   with-list-sound =
@@ -71,11 +64,12 @@ module _ (y : Year) (i l : ℕ) (s : Sound y) (h : i < y .courses) (some : 1 ≤
         terms-most = s .terms-most;
         courses-most = s .courses-most;
         term-length = s .term-length;
-        course-length = length-set (y .course) i (courseOf (weight y i) l) ∙ s .course-length;
+        weight-length = s .weight-length;
+        list-length = length-set (y .list) i l ∙ s .list-length;
         term-sound = s .term-sound;
         course-sound = λ k m. course k m (ℕ-discrete k i);
         term-blank = s .term-blank;
-        course-blank = λ k m n. course-other y i l k (λ e. absurd (omega arith)) ∙ s .course-blank k m n;
+        course-blank = λ k m n. ap (courseOf (weight y k)) (list-other y i l k (λ e. absurd (omega arith))) ∙ s .course-blank k m n;
       }
 
 -- a course placed in a term of the year; a course struck from a term that is not its only one

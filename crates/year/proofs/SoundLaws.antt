@@ -1,7 +1,7 @@
 -- The test of soundness and the record of facts say the same.
 use Prim.Native.Nat.{ℕ, _/_, _^_, _≤_, _<_}
 use mathlib.Core.Bool.{true, _&&_}
-use mathlib.Core.Path.{_≡_}
+use mathlib.Core.Path.{_≡_, ap}
 use native.Mathlib.Omega.{arith}
 use native.Mathlib.Nat.{div-lt-iff-lt-mul, one-mul, div-eq-of-lt}
 use native.Mathlib.Decide.{decLt}
@@ -66,15 +66,17 @@ sound-of y e =
     let r = and-true (leb 1 (y .terms) && leb (y .terms) 16 && leb (y .courses) 64) (shaped y) (q .0) in
     let s = and-true (leb 1 (y .terms) && leb (y .terms) 16) (leb (y .courses) 64) (r .0) in
     let t = and-true (leb 1 (y .terms)) (leb (y .terms) 16) (s .0) in
-    let u = and-true (eqb (length (y .term)) 16) (eqb (length (y .course)) 64) (r .1) in
+    let u = and-true (eqb (length (y .term)) 16 && eqb (length (y .weight)) 64) (eqb (length (y .list)) 64) (r .1) in
+    let v = and-true (eqb (length (y .term)) 16) (eqb (length (y .weight)) 64) (u .0) in
     let most : y .terms ≤ 16 = leb-true _ _ (t .1) in
     let few : y .courses ≤ 64 = leb-true _ _ (s .1) in
     record {
       terms-least = leb-true _ _ (t .0);
       terms-most = most;
       courses-most = few;
-      term-length = eqb-true _ _ (u .0);
-      course-length = eqb-true _ _ (u .1);
+      term-length = eqb-true _ _ (v .0);
+      weight-length = eqb-true _ _ (v .1);
+      list-length = eqb-true _ _ (u .1);
       term-sound = λ j l. term-sound-of (termAt y j) (rw (lt-ltb _ _ l) at (all-at 16 (termGood y) (q .1) j (omega arith)));
       course-sound = λ i l. course-sound-of (courseAt y i) (y .terms) (rw (lt-ltb _ _ l) at (all-at 64 (courseGood y) (p .1) i (omega arith)));
       term-blank = λ j l m. term-blank-of (termAt y j) (rw (le-ltb _ _ l) at (all-at 16 (termGood y) (q .1) j m));
@@ -93,7 +95,7 @@ course-sound-to c n h =
 pub sound-to : (y : Year) → Sound y → isSound y ≡ true
 unfolding isSound
 sound-to y s =
-    simp (le-leb _ _ (s .terms-least), le-leb _ _ (s .terms-most), le-leb _ _ (s .courses-most), eq-eqb _ _ (s .term-length), eq-eqb _ _ (s .course-length))
+    simp (le-leb _ _ (s .terms-least), le-leb _ _ (s .terms-most), le-leb _ _ (s .courses-most), eq-eqb _ _ (s .term-length), eq-eqb _ _ (s .weight-length), eq-eqb _ _ (s .list-length))
     (and-of (all 16 (termGood y)) (all 64 (courseGood y))
     (all-of 16 (termGood y) (λ j l. term j l (decLt j (y .terms))))
     (all-of 64 (courseGood y) (λ i l. course i l (decLt i (y .courses)))))
@@ -108,4 +110,5 @@ sound-to y s =
     course i l (yes m) = simp (lt-ltb _ _ m) (course-sound-to (courseAt y i) (y .terms) (s .course-sound i m))
     course i l (no n) =
         let m : y .courses ≤ i = omega (arith, n) in
-        simp (le-ltb _ _ m, s .course-blank i m l)
+        let z = s .course-blank i m l in
+        simp (le-ltb _ _ m, ap (λ (c : Course). c .weight .0) z, ap (λ (c : Course). c .list) z)

@@ -1,15 +1,15 @@
 -- The sums of a term with one course more, and their bounds in a sound year.
 use Prim.Native.Nat.{ℕ, _+_, _*_, _≤_, _<_}
 use mathlib.Core.Bool.{Bool, true, false, _&&_, not}
-use mathlib.Core.Path.{_≡_, ap}
+use mathlib.Core.Path.{_≡_, refl, ap}
 use native.Mathlib.Omega.{arith}
 use mathlib.Core.List.{List}
 use lib.ListN.{getD}
 use Rattle.theory.specs.Sum.{pick, sum}
-use Rattle.theory.proofs.SumLaws.{sum-more, sum-mono, sum-add, sum-le-mul}
+use Rattle.theory.proofs.SumLaws.{sum-more, sum-mono, sum-add, sum-le-mul, sum-term-le}
 use Rattle.theory.specs.Tab.{tab}
 use Rattle.theory.proofs.TabLaws.{getD-tab}
-use Rattle.year.specs.Year.{courseAt, weight, isFixed, lists}
+use Rattle.year.specs.Year.{courseIn, isFixed, isOpen, lists}
 use Rattle.year.specs.Sums.{fixedWeight, openWeight, fixedOne, openOne, fixedCredits, openCredits, fixedCount, openCount, allCredits}
 use Rattle.year.specs.SumsOf.{sumsTo, sumsAt, sumsWith, noSums}
 use Rattle.year.specs.Sound.{Sound}
@@ -25,63 +25,72 @@ apart true false x = omega arith
 apart false true x = omega arith
 apart false false x = omega arith
 
-pub weights-to : (y : Year) (n : ℕ) → ((i : ℕ) → i < n → weight y i ≤ 1000) → sum n (weight y) ≤ 1000 * n
-weights-to y n h = omega (arith, sum-le-mul n 1000 (weight y) h)
+abbrev weightIn : List ℕ → ℕ → ℕ
+weightIn w i = getD w i 0
 
-pub weights-fit : (y : Year) (n : ℕ) → Sound y → n ≤ y .courses → (i : ℕ) → i < n → weight y i ≤ 1000
-weights-fit y n s h i l = s .course-sound i (omega arith) .weight-most
+module _ (w l : List ℕ) where
+  pub weights-to : (n : ℕ) → ((i : ℕ) → i < n → weightIn w i ≤ 1000) → sum n (weightIn w) ≤ 1000 * n
+  weights-to n h = omega (arith, sum-le-mul n 1000 (weightIn w) h)
 
-pub possible-to : (y : Year) (j n : ℕ) → sum n (fixedWeight y j) + sum n (openWeight y j) ≤ sum n (weight y)
-possible-to y j n =
-    omega (
-      arith,
-      sum-add n (fixedWeight y j) (openWeight y j),
-      sum-mono n (λ i. fixedWeight y j i + openWeight y j i) (weight y) (λ i l. apart (isFixed (courseAt y i) j) (lists (courseAt y i) j) (weight y i)),
-    )
+  pub possible-to : (j n : ℕ) → sum n (fixedWeight w l j) + sum n (openWeight w l j) ≤ sum n (weightIn w)
+  possible-to j n =
+      omega (
+        arith,
+        sum-add n (fixedWeight w l j) (openWeight w l j),
+        sum-mono n (λ i. fixedWeight w l j i + openWeight w l j i) (weightIn w) (λ i h. apart (isFixed (courseIn w l i) j) (lists (courseIn w l i) j) (weightIn w i)),
+      )
 
-pub counts-to : (y : Year) (j n : ℕ) → sum n (fixedOne y j) + sum n (openOne y j) ≤ n
-counts-to y j n =
-    omega (
-      arith,
-      sum-add n (fixedOne y j) (openOne y j),
-      sum-le-mul n 1 (λ i. fixedOne y j i + openOne y j i) (λ i l. apart (isFixed (courseAt y i) j) (lists (courseAt y i) j) 1),
-    )
+  pub counts-to : (j n : ℕ) → sum n (fixedOne w l j) + sum n (openOne w l j) ≤ n
+  counts-to j n =
+      omega (
+        arith,
+        sum-add n (fixedOne w l j) (openOne w l j),
+        sum-le-mul n 1 (λ i. fixedOne w l j i + openOne w l j i) (λ i h. apart (isFixed (courseIn w l i) j) (lists (courseIn w l i) j) 1),
+      )
 
--- one turn of the loop over the courses
-pub sums-more : (y : Year) (j n : ℕ) → sumsTo y j (n + 1) ≡ sumsWith (sumsTo y j n) (courseAt y n) j
-sums-more y j n =
-    let f = sum-more n (fixedWeight y j) in
-    let p : sum (n + 1) (fixedWeight y j) + sum (n + 1) (openWeight y j)
-    ≡ sum n (fixedWeight y j) + sum n (openWeight y j) + fixedWeight y j n + openWeight y j n = omega (arith, f, sum-more n (openWeight y j)) in
-    let c = sum-more n (fixedOne y j) in
-    let o = sum-more n (openOne y j) in
-    λ i. record { fixed = record { 0 = f i }; possible = record { 0 = p i }; placed = record { 0 = c i }; free = record { 0 = o i } }
+  -- where none is open, no course is
+  pub none-open : (j n : ℕ) → sum n (openOne w l j) ≡ 0 → (i : ℕ) → i < n → isOpen (courseIn w l i) j ≡ false
+  none-open j n e i h = go (isOpen (courseIn w l i) j) refl (sum-term-le n i (openOne w l j) h)
+    where
+      go : (b : Bool) → isOpen (courseIn w l i) j ≡ b → pick b 1 ≤ sum n (openOne w l j) → isOpen (courseIn w l i) j ≡ false
+      go true p q = absurd (omega arith)
+      go false p q = p
 
--- and no sum passes its size on the way
-pub sums-fit : (y : Year) (j n : ℕ) (s : Sums) → n < 64 → ((i : ℕ) → i ≤ n → weight y i ≤ 1000) → s ≡ sumsTo y j n
-    → (weight y n ≤ 1000) × (s .possible .0 ≤ 64000) × (s .placed .0 ≤ 64) × (s .free .0 ≤ 64) × (s .fixed .0 ≤ s .possible .0)
-sums-fit y j n s h t e =
-    let f : s .fixed .0 ≡ sum n (fixedWeight y j) = ap (λ (z : Sums). z .fixed .0) e in
-    let p : s .possible .0 ≡ sum n (fixedWeight y j) + sum n (openWeight y j) = ap (λ (z : Sums). z .possible .0) e in
-    let c : s .placed .0 ≡ sum n (fixedOne y j) = ap (λ (z : Sums). z .placed .0) e in
-    let o : s .free .0 ≡ sum n (openOne y j) = ap (λ (z : Sums). z .free .0) e in
-    let credits : s .possible .0 ≤ 1000 * n = omega (arith, weights-to y n (λ i l. t i (omega arith)), possible-to y j n) in
-    let counts : s .placed .0 + s .free .0 ≤ n = omega (arith, counts-to y j n) in
-    (t n (omega arith), omega arith, omega arith, omega arith, omega arith)
+  -- one turn of the loop over the courses
+  pub sums-more : (j n : ℕ) → sumsTo w l (n + 1) j ≡ sumsWith (sumsTo w l n j) (courseIn w l n) j
+  sums-more j n =
+      let f = sum-more n (fixedWeight w l j) in
+      let p : sum (n + 1) (fixedWeight w l j) + sum (n + 1) (openWeight w l j)
+      ≡ sum n (fixedWeight w l j) + sum n (openWeight w l j) + fixedWeight w l j n + openWeight w l j n = omega (arith, f, sum-more n (openWeight w l j)) in
+      let c = sum-more n (fixedOne w l j) in
+      let o = sum-more n (openOne w l j) in
+      λ i. record { fixed = record { 0 = f i }; possible = record { 0 = p i }; placed = record { 0 = c i }; free = record { 0 = o i } }
+
+  -- and no sum passes its size on the way
+  pub sums-fit : (j n : ℕ) (s : Sums) → n < 64 → ((i : ℕ) → i ≤ n → weightIn w i ≤ 1000) → s ≡ sumsTo w l n j
+      → (weightIn w n ≤ 1000) × (s .possible .0 ≤ 64000) × (s .placed .0 ≤ 64) × (s .free .0 ≤ 64) × (s .fixed .0 ≤ s .possible .0)
+  sums-fit j n s h t e =
+      let f : s .fixed .0 ≡ sum n (fixedWeight w l j) = ap (λ (z : Sums). z .fixed .0) e in
+      let p : s .possible .0 ≡ sum n (fixedWeight w l j) + sum n (openWeight w l j) = ap (λ (z : Sums). z .possible .0) e in
+      let c : s .placed .0 ≡ sum n (fixedOne w l j) = ap (λ (z : Sums). z .placed .0) e in
+      let o : s .free .0 ≡ sum n (openOne w l j) = ap (λ (z : Sums). z .free .0) e in
+      let credits : s .possible .0 ≤ 1000 * n = omega (arith, weights-to n (λ i m. t i (omega arith)), possible-to j n) in
+      let counts : s .placed .0 + s .free .0 ≤ n = omega (arith, counts-to j n) in
+      (t n (omega arith), omega arith, omega arith, omega arith, omega arith)
 
 -- ---- over the year
 
 pub all-credits-le : (y : Year) → Sound y → allCredits y ≤ 1000 * y .courses
 unfolding allCredits
-all-credits-le y s = weights-to y (y .courses) (weights-fit y (y .courses) s (omega arith))
+all-credits-le y s = weights-to (y .weight) (y .list) (y .courses) (λ i h. s .course-sound i h .weight-most)
 
 pub possible-le : (y : Year) (j : ℕ) → fixedCredits y j + openCredits y j ≤ allCredits y
 unfolding fixedCredits openCredits allCredits
-possible-le y j = possible-to y j (y .courses)
+possible-le y j = possible-to (y .weight) (y .list) j (y .courses)
 
 pub counts-le : (y : Year) (j : ℕ) → fixedCount y j + openCount y j ≤ y .courses
 unfolding fixedCount openCount
-counts-le y j = counts-to y j (y .courses)
+counts-le y j = counts-to (y .weight) (y .list) j (y .courses)
 
 -- ---- an array that holds the sums of each term
 

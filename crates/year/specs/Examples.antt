@@ -8,7 +8,8 @@ use Rattle.theory.specs.Sum.{sum}
 use Rattle.theory.specs.Pairs.{square}
 use Rattle.theory.specs.Tests.{all, any}
 use Rattle.theory.specs.Order.{keep}
-use Rattle.year.specs.Year.{termOf, courseOf, zeroTerm, zeroCourse, emptyYear, placed, withList, withTerm}
+use Rattle.year.specs.Year.{termOf, courseOf, zeroTerm, zeroCourse, courseAt}
+use Rattle.year.specs.Doors.{emptyYear, byHand, placed, withList, withTerm}
 use Rattle.year.specs.Sound.{isSound}
 use Rattle.year.specs.Sums.{fixedCredits, fixedCount, allCredits, isPlaced, allPlaced}
 use Rattle.year.specs.Tight.{creditsWithin, countsWithin}
@@ -27,7 +28,7 @@ abbrev padded : {A : Type 0} → ℕ → A → List A → List A
 padded n a l = take n (l ++ replicate n a)
 
 abbrev pub yearOf : List Term → List Course → Year
-yearOf ts cs = record { terms = length ts; courses = length cs; term = padded 16 zeroTerm ts; course = padded 64 zeroCourse cs }
+yearOf ts cs = byHand (length ts) (length cs) (padded 16 zeroTerm ts) (padded 64 zeroCourse cs)
 
 -- a term with the widest bounds but for its low credits and its low count
 abbrev pub atLeast : ℕ → ℕ → Term
@@ -55,7 +56,18 @@ foreignE = withList yearE 2 7
 -- a year of n terms and m courses with every entry filled: each course of weight w lists all sixteen terms,
 -- each term has the bounds 0-v and 0-k
 abbrev pub fullYear : ℕ → ℕ → ℕ → ℕ → ℕ → Year
-fullYear n m w v k = record { terms = n; courses = m; term = replicate 16 (termOf 0 v 0 k); course = replicate 64 (courseOf w 65535) }
+fullYear n m w v k = byHand n m (replicate 16 (termOf 0 v 0 k)) (replicate 64 (courseOf w 65535))
+
+-- ---- years by hand, and their courses
+
+-- the weights in one column, the lists in the other, and each course as it was given; zeros past the last, and past both columns
+pub columns-of-e : (yearE .weight ≡ padded 64 0 (4 ∷ 3 ∷ 2 ∷ [])) × (yearE .list ≡ padded 64 0 (3 ∷ 3 ∷ 3 ∷ []))
+columns-of-e = (refl, refl)
+
+pub courses-of-e : (courseAt yearE 0 ≡ courseOf 4 3) × (courseAt firstPlaced 0 ≡ courseOf 4 1) × (courseAt yearE 2 ≡ courseOf 2 3)
+    × (courseAt yearE 3 ≡ zeroCourse) × (courseAt (fullYear 16 64 1000 64000 64) 63 ≡ courseOf 1000 65535)
+    × (courseAt (fullYear 16 64 1000 64000 64) 64 ≡ zeroCourse)
+courses-of-e = (refl, refl, refl, refl, refl, refl)
 
 -- ---- soundness
 
@@ -93,7 +105,7 @@ unfolding isSound all
 count-past = refl
 
 -- no term, and a course of no weight
-pub no-term : isSound (record { terms = 0; courses = 0; term = emptyYear .term; course = emptyYear .course }) ≡ false
+pub no-term : isSound (byHand 0 0 (replicate 16 zeroTerm) (replicate 64 zeroCourse)) ≡ false
 unfolding isSound all
 no-term = refl
 
@@ -105,6 +117,12 @@ no-weight = refl
 pub past-the-last : (isSound (withTerm yearE 2 (termOf 0 1 0 0)) ≡ false) × (isSound (withList yearE 3 1) ≡ false)
 unfolding isSound all
 past-the-last = (refl, refl)
+
+-- a weight that has no list, past the last course and of a course
+pub weight-alone : (isSound (byHand 2 2 (yearE .term) (padded 64 zeroCourse (courseOf 4 3 ∷ courseOf 3 3 ∷ courseOf 2 0 ∷ []))) ≡ false)
+    × (isSound (byHand 2 3 (yearE .term) (padded 64 zeroCourse (courseOf 4 3 ∷ courseOf 3 3 ∷ courseOf 2 0 ∷ []))) ≡ false)
+unfolding isSound all
+weight-alone = (refl, refl)
 
 -- a low bound up to its high bound, and past it
 pub bounds-ordered : (isSound (withTerm yearE 0 (termOf 4 4 3 3)) ≡ true)

@@ -2,6 +2,7 @@
 pub mod Year
 pub mod Sound
 pub mod Sums
+pub mod Doors
 pub mod Tight
 pub mod Narrow
 pub mod Imbalance

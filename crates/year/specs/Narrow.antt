@@ -3,7 +3,8 @@ use Prim.Native.Nat.{ℕ, _^_}
 use mathlib.Core.Bool.{Bool, false, _||_}
 use lib.Dec.{eqb, leb, ltb}
 use Rattle.theory.specs.Choice.{choose}
-use Rattle.year.specs.Year.{termAt, courseAt, list, lists, lowCredits, highCredits, lowCount, highCount, withTerm, placed, struck}
+use Rattle.year.specs.Year.{termAt, courseAt, list, lists, lowCredits, highCredits, lowCount, highCount}
+use Rattle.year.specs.Doors.{withTerm, placed, struck}
 use Rattle.year.specs.Sound.{isSound}
 use Rattle.year.specs.Tight.{creditsWithin, countsWithin}
 use Rattle.year.specs.declared.Tight.{Tight}

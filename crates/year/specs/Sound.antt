@@ -35,9 +35,9 @@ termGood y j = choose (ltb j (y .terms)) (termSound (termAt y j)) (termBlank (te
 abbrev pub courseGood : Year → ℕ → Bool
 courseGood y i = choose (ltb i (y .courses)) (courseSound (courseAt y i) (y .terms)) (courseBlank (courseAt y i))
 
--- the two arrays have their lengths, as each array of the program has
+-- the three arrays have their lengths, as each array of the program has
 abbrev pub shaped : Year → Bool
-shaped y = eqb (length (y .term)) 16 && eqb (length (y .course)) 64
+shaped y = eqb (length (y .term)) 16 && eqb (length (y .weight)) 64 && eqb (length (y .list)) 64
 
 unfoldable pub isSound : Year → Bool
 isSound y =
@@ -62,7 +62,8 @@ pub record Sound (y : Year) : Type 0 where
   pub terms-most : y .terms ≤ 16
   pub courses-most : y .courses ≤ 64
   pub term-length : length (y .term) ≡ 16
-  pub course-length : length (y .course) ≡ 64
+  pub weight-length : length (y .weight) ≡ 64
+  pub list-length : length (y .list) ≡ 64
   pub term-sound : (j : ℕ) → j < y .terms → TermSound (termAt y j)
   pub course-sound : (i : ℕ) → i < y .courses → CourseSound (courseAt y i) (y .terms)
   pub term-blank : (j : ℕ) → y .terms ≤ j → j < 16 → termAt y j ≡ zeroTerm

@@ -1,34 +1,36 @@
 -- The sums of a term: p, P, the number fixed, the number open; and the sums of the year: S and n.
 use Prim.Native.Nat.{ℕ, _+_}
 use mathlib.Core.Bool.{Bool}
+use mathlib.Core.List.{List}
+use lib.ListN.{getD}
 use Rattle.theory.specs.Sum.{pick, sum}
 use Rattle.theory.specs.Tests.{any, all}
-use Rattle.year.specs.Year.{courseAt, weight, isFixed, isOpen}
+use Rattle.year.specs.Year.{courseIn, courseAt, weight, isFixed, isOpen}
 use Rattle.year.specs.declared.Course.{Course}
 use Rattle.year.specs.declared.Year.{Year}
 
--- ---- what course i adds
+-- ---- what course i of two columns, the weights w and the lists l, adds to term j
 
-abbrev pub fixedWeight : Year → ℕ → ℕ → ℕ
-fixedWeight y j i = pick (isFixed (courseAt y i) j) (weight y i)
+abbrev pub fixedWeight : List ℕ → List ℕ → ℕ → ℕ → ℕ
+fixedWeight w l j i = pick (isFixed (courseIn w l i) j) (getD w i 0)
 
-abbrev pub openWeight : Year → ℕ → ℕ → ℕ
-openWeight y j i = pick (isOpen (courseAt y i) j) (weight y i)
+abbrev pub openWeight : List ℕ → List ℕ → ℕ → ℕ → ℕ
+openWeight w l j i = pick (isOpen (courseIn w l i) j) (getD w i 0)
 
-abbrev pub fixedOne : Year → ℕ → ℕ → ℕ
-fixedOne y j i = pick (isFixed (courseAt y i) j) 1
+abbrev pub fixedOne : List ℕ → List ℕ → ℕ → ℕ → ℕ
+fixedOne w l j i = pick (isFixed (courseIn w l i) j) 1
 
-abbrev pub openOne : Year → ℕ → ℕ → ℕ
-openOne y j i = pick (isOpen (courseAt y i) j) 1
+abbrev pub openOne : List ℕ → List ℕ → ℕ → ℕ → ℕ
+openOne w l j i = pick (isOpen (courseIn w l i) j) 1
 
 -- ---- the sums of term j
 
 -- p: the credits of the courses fixed in j
 unfoldable pub fixedCredits : Year → ℕ → ℕ
-fixedCredits y j = sum (y .courses) (fixedWeight y j)
+fixedCredits y j = sum (y .courses) (fixedWeight (y .weight) (y .list) j)
 
 unfoldable pub openCredits : Year → ℕ → ℕ
-openCredits y j = sum (y .courses) (openWeight y j)
+openCredits y j = sum (y .courses) (openWeight (y .weight) (y .list) j)
 
 -- P: p plus the credits of the courses open in j
 abbrev pub possibleCredits : Year → ℕ → ℕ
@@ -36,10 +38,10 @@ possibleCredits y j = fixedCredits y j + openCredits y j
 
 -- the number fixed and the number open
 unfoldable pub fixedCount : Year → ℕ → ℕ
-fixedCount y j = sum (y .courses) (fixedOne y j)
+fixedCount y j = sum (y .courses) (fixedOne (y .weight) (y .list) j)
 
 unfoldable pub openCount : Year → ℕ → ℕ
-openCount y j = sum (y .courses) (openOne y j)
+openCount y j = sum (y .courses) (openOne (y .weight) (y .list) j)
 
 -- ---- the year
 

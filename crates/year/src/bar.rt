@@ -20,14 +20,14 @@ impl Year {
                 year: self,
             };
         }
-        let c = self.course[i];
-        if !doors::lists(c, j) {
+        let list = self.list[i];
+        if !doors::lists(list, j) {
             return Narrowed {
                 answer: a,
                 year: self,
             };
         }
-        if c.list == doors::power(j) {
+        if list == doors::power(j) {
             return Narrowed {
                 answer: Narrowing::Crossing,
                 year: self,

@@ -1,13 +1,14 @@
 // The two doors: a year is altered by replacing one term's bounds or one course's list, and in no other way.
-use crate::Course;
 use crate::Term;
 use crate::Tight;
 use crate::Year;
 ghost use mathlib.Core.Path.{_≡_};
 ghost use mathlib.Core.Bool.{true};
 ghost use Prim.Native.Nat.{_<_, _^_};
+ghost use Rattle.theory.specs.Bits.{has};
 ghost use Rattle.theory.specs.Choice.{choose};
-ghost use Rattle.year.specs.Year.{courseAt, lists, withTerm, withList, placed, struck};
+ghost use Rattle.year.specs.Year.{courseAt, lists};
+ghost use Rattle.year.specs.Doors.{withTerm, withList, placed, struck};
 
 // The list of term j alone.
 pub fn power(j: usize) -> u16
@@ -43,7 +44,7 @@ pub fn with_list(y: Year, i: usize, list: u16) -> Year
     ensures { λ r. ⌜ r ≡ withList y i list ⌝ }
 {
     let mut z = y;
-    z.course[i].list = list;
+    z.list[i] = list;
     z
 }
 
@@ -63,14 +64,13 @@ pub fn struck(y: Year, i: usize, j: usize) -> Year
     requires { ⌜ lists (courseAt y i) j ≡ true ⌝ }
     ensures { λ r. ⌜ r ≡ struck y i j ⌝ }
 {
-    let c = y.course[i];
-    with_list(y, i, c.list - power(j))
+    with_list(y, i, y.list[i] - power(j))
 }
 
-// Term j is on the course's list.
-pub fn lists(c: Course, j: usize) -> bool
+// Term j is on the list.
+pub fn lists(list: u16, j: usize) -> bool
     requires { ⌜ j < 16 ⌝ }
-    ensures { λ r. ⌜ r ≡ lists c j ⌝ }
+    ensures { λ r. ⌜ r ≡ has list j ⌝ }
 {
-    (c.list >> j) % 2 == 1
+    (list >> j) % 2 == 1
 }

@@ -3,12 +3,13 @@ mod bar;
 mod checks;
 pub mod doors;
 mod limits;
+pub mod pairs;
 mod place;
 pub mod sound;
 pub mod tighter;
 
 ghost use mathlib.Core.Path.{_≡_};
-ghost use Rattle.year.specs.Year.{emptyYear};
+ghost use Rattle.year.specs.Doors.{emptyYear};
 
 // A number of credits. Never compared with a number of courses.
 pub struct Credits(pub u32);
@@ -30,12 +31,14 @@ pub struct Course {
     pub list: u16,
 }
 
-// A year of `terms` terms and `courses` courses. Entries past the last are zero in a sound year.
+// A year of `terms` terms and `courses` courses; course i has entry i of the weights, in credits, and of the lists.
+// Entries past the last are zero in a sound year.
 pub struct Year {
     pub terms: usize,
     pub courses: usize,
     pub term: [Term; Year::TERMS],
-    pub course: [Course; Year::COURSES],
+    pub weight: [u32; Year::COURSES],
+    pub list: [u16; Year::COURSES],
 }
 
 // The four sums of a term: the credits fixed in it (p), those fixed or open (P), the number fixed and the number open.
@@ -97,17 +100,15 @@ impl Year {
             least: Courses(0),
             most: Courses(0),
         };
-        let c = Course {
-            weight: Credits(0),
-            list: 0,
-        };
         let term = [t; Year::TERMS];
-        let course = [c; Year::COURSES];
+        let weight = [0u32; Year::COURSES];
+        let list = [0u16; Year::COURSES];
         Year {
             terms: 1,
             courses: 0,
             term: term,
-            course: course,
+            weight: weight,
+            list: list,
         }
     }
 }

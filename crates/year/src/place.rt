@@ -20,7 +20,7 @@ impl Year {
                 year: self,
             };
         }
-        if !doors::lists(self.course[i], j) {
+        if !doors::lists(self.list[i], j) {
             return Narrowed {
                 answer: Narrowing::Crossing,
                 year: self,

@@ -2,6 +2,7 @@
 use crate::Course;
 use crate::Term;
 use crate::Year;
+use crate::pairs;
 ghost use mathlib.Core.Path.{_≡_};
 ghost use Prim.Native.Nat.{_≤_};
 ghost use lib.Dec.{ltb};
@@ -77,7 +78,8 @@ fn courses_good(y: Year) -> bool
 {
     let mut good = true;
     for i in 0..Year::COURSES {
-        good = good & course_good(y.course[i], i, y.courses, y.terms);
+        let c = pairs::course_of(y.weight[i], y.list[i]);
+        good = good & course_good(c, i, y.courses, y.terms);
     }
     good
 }

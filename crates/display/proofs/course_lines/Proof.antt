@@ -21,18 +21,28 @@ loop-holds : tie.Need-loop-holds Inv-loop μ-loop
 unfolding joined
 loop-holds c = (search needs, put-nothing (c .before .args .buf .now) (c .before .args .at))
 
-mul-course-line : tie.Need-mul-course-line Inv-loop μ-loop
-mul-course-line c = omega (arith, c .before .before .before .before .pre .0)
+mul-course-of : tie.Need-mul-course-of Inv-loop μ-loop
+mul-course-of c = omega (arith, c .before .before .before .before .pre .0)
 
-element-copy-out-course-line : tie.Need-element-copy-out-course-line Inv-loop μ-loop
-element-copy-out-course-line c = omega (arith, c .before .before .before .before .pre .0)
+element-copy-out-course-of : tie.Need-element-copy-out-course-of Inv-loop μ-loop
+element-copy-out-course-of c = omega (arith, c .before .before .before .before .pre .0)
+
+mul-course-of-2 : tie.Need-mul-course-of-2 Inv-loop μ-loop
+mul-course-of-2 c = omega (arith, c .before .before .before .before .before .pre .0)
+
+element-copy-out-course-of-2 : tie.Need-element-copy-out-course-of-2 Inv-loop μ-loop
+element-copy-out-course-of-2 c = omega (arith, c .before .before .before .before .before .pre .0)
+
+course-of-requires : tie.Need-course-of-requires Inv-loop μ-loop
+course-of-requires c κs = search needs
 
 course-line-requires : tie.Need-course-line-requires Inv-loop μ-loop
 course-line-requires c κs =
-    let l = c .before .before .before in
+    let t = c .before .before .before .before in
+    let l = t .before in
     let b = l .before .before in
     let y = b .args .t3 in
-    (omega (arith, b .pre .0), law.line-room (courseLineAt y) (y .courses) (l .loop .i) (c .before .before .loop-test .taken) (b .pre .1) (l .loop .inv .1))
+    (omega (arith, b .pre .0), rw (c .course-of .ensures) (law.line-room (courseLineAt y) (y .courses) (l .loop .i) (t .loop-test .taken) (b .pre .1) (l .loop .inv .1)))
 
 add-i : tie.Need-add-i Inv-loop μ-loop
 add-i c = search needs
@@ -42,10 +52,12 @@ loop-less c = search needs
 
 loop-again : tie.Need-loop-again Inv-loop μ-loop
 loop-again c =
-    let l = c .before .before .before .before .before .before in
+    let d = c .before .before in
+    let t = d .before .before .before .before .before in
+    let l = t .before in
     let b = l .before .before in
     let y = b .args .t3 in
-    (search needs, law.line-turn (courseLineAt y) (y .courses) (l .loop .i) (c .before .before .before .before .before .loop-test .taken) (b .pre .1) (l .loop .inv .1) (c .before .before .course-line .ensures))
+    (search needs, law.line-turn (courseLineAt y) (y .courses) (l .loop .i) (t .loop-test .taken) (b .pre .1) (l .loop .inv .1) (rw (d .before .course-of .ensures) at (d .course-line .ensures)))
 
 same-length : tie.Need-same-length Inv-loop μ-loop
 same-length c = search (needs, c .before .loop .inv .1 .long)
@@ -64,8 +76,11 @@ course-lines-spec =
     Inv-loop
     μ-loop
     loop-holds
-    mul-course-line
-    element-copy-out-course-line
+    mul-course-of
+    element-copy-out-course-of
+    mul-course-of-2
+    element-copy-out-course-of-2
+    course-of-requires
     course-line-requires
     add-i
     loop-less

@@ -36,11 +36,11 @@ at c =
     let i = c .before .before .before in
     let l = i .before in
     let b = l .before .before in
-    turn-10 (b .args .weight .now) (b .args .t1) (b .pre .1 .0) (l .loop .j) (within i) (l .loop .z) (l .loop .inv .1) (going i) (c .term-verdict-10 .result) (c .term-verdict-10 .ensures)
+    turn-10 (b .args .weight .now) (b .args .t1) (b .pre .0) (l .loop .j) (within i) (l .loop .z) (l .loop .inv .1) (going i) (c .term-verdict-10 .result) (c .term-verdict-10 .ensures)
 
 loop-holds : tie.Need-loop-holds Inv-loop μ-loop
 unfolding fold
-loop-holds c = (search needs, c .before .pre .1 .1)
+loop-holds c = (search needs, c .before .pre .1)
 
 mul-t : tie.Need-mul-t Inv-loop μ-loop
 mul-t c = let w = within c in search needs
@@ -58,14 +58,13 @@ term-verdict-10-requires : tie.Need-term-verdict-10-requires Inv-loop μ-loop
 term-verdict-10-requires c κs = let i = c .before .before in
     let l = i .before in
     let b = l .before .before in
-    fits-10 (b .args .weight .now) (b .args .t1) (b .pre .1 .0) (l .loop .j) (within i) (l .loop .z) (l .loop .inv .1) (going i)
+    fits-10 (b .args .weight .now) (b .args .t1) (b .pre .0) (l .loop .j) (within i) (l .loop .z) (l .loop .inv .1) (going i)
 
 enum-told : tie.Need-enum-told Inv-loop μ-loop
 enum-told c = search needs
 
 term-judged-requires : tie.Need-term-judged-requires Inv-loop μ-loop
-term-judged-requires c κs = let r = at (c .before) .ready in
-    ((c .before .before .before .before .before .before .before .pre .0, r .0), (r .1, (r .2, r .3)))
+term-judged-requires c κs = at (c .before) .ready
 
 add-j : tie.Need-add-j Inv-loop μ-loop
 add-j c = search needs

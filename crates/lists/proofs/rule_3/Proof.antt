@@ -8,7 +8,6 @@ use Rattle.theory.specs.Fold.{fold}
 use Rattle.rules.specs.Step.{overTo}
 use Rattle.frame.specs.State.{held, stepIn}
 use Rattle.rules.specs.Lists.{rule3}
-use Rattle.frame.proofs.StateLaws.{list-long}
 use Rattle.lists.proofs.OverLaws.{no-plan-stays, TermTurn, fits-3, turn-3}
 use Rattle.lists.proofs.rule_3.Statement.{statement}
 use Rattle.lists.proofs.rule_3.Tie as tie
@@ -34,24 +33,23 @@ at c =
     let i = c .before .before .before .before in
     let l = i .before in
     let b = start l in
-    turn-3 (b .args .weight .now) (b .args .t1) (b .pre .1 .0) (on l .if1 .left) (l .loop .j) (i .loop-test .taken) (l .loop .z) (l .loop .inv .1) (l .before .heaviest .result) (l .before .heaviest .ensures)
+    turn-3 (b .args .weight .now) (b .args .t1) (b .pre .0) (on l .if1 .left) (l .loop .j) (i .loop-test .taken) (l .loop .z) (l .loop .inv .1) (l .before .heaviest .result) (l .before .heaviest .ensures)
     (c .term-verdict-3 .result) (c .term-verdict-3 .ensures)
 
 returns : tie.Need-returns Inv-loop μ-loop
 returns c = let b = c .before .before in
-    b .pre .1 .1 ∙ ap held (sym (no-plan-stays rule3 (stepIn (b .args .weight .now) (b .args .t1)) (c .if1 .taken)))
+    b .pre .1 ∙ ap held (sym (no-plan-stays rule3 (stepIn (b .args .weight .now) (b .args .t1)) (c .if1 .taken)))
 
 slice-aggregate-heaviest : tie.Need-slice-aggregate-heaviest Inv-loop μ-loop
 slice-aggregate-heaviest c = search needs
 
 heaviest-requires : tie.Need-heaviest-requires Inv-loop μ-loop
-heaviest-requires c κs = let b = c .before .before .before .before in
-    let sound = b .pre .1 .0 in
-    (omega (arith, sound), omega (arith, sound, b .pre .0), omega (arith, sound, list-long (b .args .weight .now) (b .args .t1) (b .pre .1 .1)))
+heaviest-requires c κs = let sound = c .before .before .before .before .pre .0 in
+    (omega (arith, sound), omega (arith, sound))
 
 loop-holds : tie.Need-loop-holds Inv-loop μ-loop
 unfolding fold
-loop-holds c = (search needs, c .before .before .before .before .before .pre .1 .1)
+loop-holds c = (search needs, c .before .before .before .before .before .pre .1)
 
 mul-t : tie.Need-mul-t Inv-loop μ-loop
 mul-t c = search needs
@@ -75,14 +73,13 @@ term-verdict-3-requires : tie.Need-term-verdict-3-requires Inv-loop μ-loop
 term-verdict-3-requires c κs = let i = c .before .before .before in
     let l = i .before in
     let b = start l in
-    fits-3 (b .args .weight .now) (b .args .t1) (b .pre .1 .0) (on l .if1 .left) (l .loop .j) (i .loop-test .taken) (l .loop .z) (l .loop .inv .1) (l .before .heaviest .result) (l .before .heaviest .ensures)
+    fits-3 (b .args .weight .now) (b .args .t1) (b .pre .0) (on l .if1 .left) (l .loop .j) (i .loop-test .taken) (l .loop .z) (l .loop .inv .1) (l .before .heaviest .result) (l .before .heaviest .ensures)
 
 enum-told : tie.Need-enum-told Inv-loop μ-loop
 enum-told c = search needs
 
 term-judged-requires : tie.Need-term-judged-requires Inv-loop μ-loop
-term-judged-requires c κs = let r = at (c .before) .ready in
-    ((start (c .before .before .before .before .before .before) .pre .0, r .0), (r .1, (r .2, r .3)))
+term-judged-requires c κs = at (c .before) .ready
 
 add-j : tie.Need-add-j Inv-loop μ-loop
 add-j c = search needs

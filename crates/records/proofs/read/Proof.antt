@@ -1,13 +1,15 @@
 -- `read`: the year held is what the definition has after the same records; a refusal stays to the end of the list.
 use Rattle.records.proofs.read.Statement.{statement}
 use Rattle.records.proofs.read.Tie as tie
-use Prim.Native.Nat.{_+_, _*_, _/_, _-_, _≤_, _<_}
+use Prim.Native.Nat.{ℕ, _+_, _*_, _/_, _-_, _≤_, _<_}
+use mathlib.Core.List.{List}
 use mathlib.Core.Path.{_≡_, _∙_, ap, sym}
 use mathlib.Core.Logic.{⊎-elim}
 use native.Mathlib.Omega.{arith}
 use native.Mathlib.Numerals.{add-one}
 use lib.ListN.{length}
-use Rattle.records.specs.Reading.{ofTerm, ofCourse, blankYear, done, refused, taken, recordIn, readTo, readList}
+use Rattle.records.specs.declared.Fault.{Fault}
+use Rattle.records.specs.Reading.{Faulty, ofTerm, ofCourse, blankYear, done, refused, taken, recordIn, readTo, readList}
 use Rattle.records.proofs.EntryLaws.{term-read, course-read, at-term, at-course, at-neither}
 use Rattle.records.proofs.GatherLaws.{gathered-zero, gathered-more, fault-stays}
 use Rattle.records.proofs.ListLaws.{Front, read-front}
@@ -19,9 +21,20 @@ Inv-loop s n y₀ k₀ k-end y k = (k ≤ n / 16) × (readTo s k ≡ done y)
 abbrev μ-loop : tie.MeasureT-loop
 μ-loop s n y₀ k₀ k-end y k = n / 16 - k
 
+-- the list that is read
+abbrev list : tie.At-loop Inv-loop μ-loop → List ℕ
+list l = l .before .before .before .before .before .args .s .now
+
 -- the year so far is the front of a sound year
-front : (c : tie.At-loop Inv-loop μ-loop) → Front (c .loop .k) (c .loop .y)
-front c = read-front (c .before .before .before .before .before .args .s .now) (c .loop .k) (c .loop .y) (c .loop .inv .1)
+front : (l : tie.At-loop Inv-loop μ-loop) → Front (l .loop .k) (l .loop .y)
+front l = read-front (list l) (l .loop .k) (l .loop .y) (l .loop .inv .1)
+
+-- a fault of the record at hand is the list's
+refusal : (t : tie.In-loop Inv-loop μ-loop) (f : Fault) → let l = t .before in recordIn (list l) (l .loop .k) (l .loop .y) ≡ Faulty f → refused f (l .loop .k) ≡ readList (list l)
+unfolding readList
+refusal t f e =
+    let l = t .before in
+    sym (simp (sym (l .before .before .before .bad-length .ensures) ∙ l .before .before .if1 .left) (fault-stays (recordIn (list l)) blankYear (l .loop .k) (l .loop .y) f (length (list l) / 16) (omega arith) (l .loop .inv .1) e))
 
 term-room : (c : tie.After-t Inv-loop μ-loop) → c .before .before .before .before .before .before .before .before .loop .y .terms < 16
 term-room c = term-read _ _ _ (c .t .given .0 .0) (sym (c .before .before .read-term .ensures) ∙ c .t .given .1) .room
@@ -57,11 +70,17 @@ read-course-requires c κs = (omega arith, front (c .before .before .before) .be
 enum-known-c : tie.Need-enum-known-c Inv-loop μ-loop
 enum-known-c c = search needs
 
-mul-c : tie.Need-mul-c Inv-loop μ-loop
-mul-c c = omega (arith, course-room (c .before))
+mul-y : tie.Need-mul-y Inv-loop μ-loop
+mul-y c = omega (arith, course-room (c .before))
 
-element-set-from-c : tie.Need-element-set-from-c Inv-loop μ-loop
-element-set-from-c c = course-room (c .before)
+element-write-y : tie.Need-element-write-y Inv-loop μ-loop
+element-write-y c = course-room (c .before)
+
+mul-y-2 : tie.Need-mul-y-2 Inv-loop μ-loop
+mul-y-2 c = omega (arith, course-room (c .before))
+
+element-write-y-2 : tie.Need-element-write-y-2 Inv-loop μ-loop
+element-write-y-2 c = course-room (c .before)
 
 add-y : tie.Need-add-y Inv-loop μ-loop
 add-y c = omega (arith, course-room (c .before))
@@ -73,13 +92,9 @@ refused-requires-2 : tie.Need-refused-requires-2 Inv-loop μ-loop
 refused-requires-2 c κs = search needs
 
 returns-2 : tie.Need-returns-2 Inv-loop μ-loop
-unfolding readList
 returns-2 c =
     let i = c .before .before .before .before .before in
-    let l = i .before .before .before in
-    let b = l .before .before .before .before .before .args .s .now in
-    c .refused2 .ensures
-    ∙ sym (simp (sym (l .before .before .before .bad-length .ensures) ∙ l .before .before .if1 .left) (fault-stays (recordIn b) blankYear (l .loop .k) (l .loop .y) _ (length b / 16) (omega arith) (l .loop .inv .1) (at-course b (l .loop .k * 16) (l .loop .y .terms) (l .loop .y .courses) (i .if2 .taken) ∙ ap ofCourse (sym (c .before .before .before .before .read-course .ensures) ∙ c .before .before .f .given .1))))
+    c .refused2 .ensures ∙ refusal (i .before .before) _ (at-course _ _ _ _ (i .if2 .taken) ∙ ap ofCourse (sym (c .before .before .before .before .read-course .ensures) ∙ c .before .before .f .given .1))
 
 shared-slice-read-if3 : tie.Need-shared-slice-read-if3 Inv-loop μ-loop
 shared-slice-read-if3 c = search needs
@@ -106,25 +121,17 @@ refused-requires-3 : tie.Need-refused-requires-3 Inv-loop μ-loop
 refused-requires-3 c κs = search needs
 
 returns-3 : tie.Need-returns-3 Inv-loop μ-loop
-unfolding readList
 returns-3 c =
     let i = c .before .before .before .before .before in
-    let l = i .before .before .before .before .before in
-    let b = l .before .before .before .before .before .args .s .now in
-    c .refused3 .ensures
-    ∙ sym (simp (sym (l .before .before .before .bad-length .ensures) ∙ l .before .before .if1 .left) (fault-stays (recordIn b) blankYear (l .loop .k) (l .loop .y) _ (length b / 16) (omega arith) (l .loop .inv .1) (at-term b (l .loop .k * 16) (l .loop .y .terms) (l .loop .y .courses) (i .if3 .taken) ∙ ap ofTerm (sym (c .before .before .before .before .read-term .ensures) ∙ c .before .before .f2 .given .1))))
+    c .refused3 .ensures ∙ refusal (i .before .before .before .before) _ (at-term _ _ _ _ (i .if3 .taken) ∙ ap ofTerm (sym (c .before .before .before .before .read-term .ensures) ∙ c .before .before .f2 .given .1))
 
 refused-requires-4 : tie.Need-refused-requires-4 Inv-loop μ-loop
 refused-requires-4 c κs = search needs
 
 returns-4 : tie.Need-returns-4 Inv-loop μ-loop
-unfolding readList
 returns-4 c =
     let i = c .before in
-    let l = i .before .before .before .before .before in
-    let b = l .before .before .before .before .before .args .s .now in
-    c .refused4 .ensures
-    ∙ sym (simp (sym (l .before .before .before .bad-length .ensures) ∙ l .before .before .if1 .left) (fault-stays (recordIn b) blankYear (l .loop .k) (l .loop .y) _ (length b / 16) (omega arith) (l .loop .inv .1) (at-neither b (l .loop .k * 16) (l .loop .y .terms) (l .loop .y .courses) (i .if3 .left) (i .before .before .if2 .left))))
+    c .refused4 .ensures ∙ refusal (i .before .before .before .before) _ (at-neither _ _ _ _ (i .if3 .left) (i .before .before .if2 .left))
 
 add-k : tie.Need-add-k Inv-loop μ-loop
 add-k c = search needs
@@ -135,7 +142,7 @@ loop-less c = search needs
 loop-again : tie.Need-loop-again Inv-loop μ-loop
 loop-again c =
     let l = c .before .before .before in
-    let s = l .before .before .before .before .before .args .s .now in
+    let s = list l in
     let k = l .loop .k in
     let y = l .loop .y in
     let more : readTo s (k + 1) ≡ taken y k (recordIn s k y) = ap (readTo s) (add-one k) ∙ gathered-more (recordIn s) blankYear k y (l .loop .inv .1) in (
@@ -149,7 +156,7 @@ loop-again c =
 returns-5 : tie.Need-returns-5 Inv-loop μ-loop
 unfolding readList
 returns-5 c =
-    let s = c .before .before .before .before .before .before .args .s .now in
+    let s = list (c .before) in
     let is : c .before .loop .k ≡ length s / 16 = omega arith in
     sym (simp (sym (c .before .before .before .before .bad-length .ensures) ∙ c .before .before .before .if1 .left) (ap (readTo s) (sym is) ∙ c .before .loop .inv .1))
 
@@ -168,8 +175,10 @@ read-spec =
     shared-slice-read-if2
     read-course-requires
     enum-known-c
-    mul-c
-    element-set-from-c
+    mul-y
+    element-write-y
+    mul-y-2
+    element-write-y-2
     add-y
     enum-known-f
     refused-requires-2

@@ -7,7 +7,7 @@ use Rattle.theory.specs.Sum.{sum}
 use Rattle.theory.proofs.SumLaws.{sum-more}
 use Rattle.year.specs.Year.{weight}
 use Rattle.year.specs.Sums.{allCredits}
-use Rattle.year.proofs.SumLaws.{weights-to, weights-fit}
+use Rattle.year.proofs.SumLaws.{weights-to}
 use Rattle.totals.proofs.all_credits.Statement.{statement}
 use Rattle.totals.proofs.all_credits.Tie as tie
 
@@ -29,13 +29,14 @@ element-copy-out-total c = search needs
 
 add-total : tie.Need-add-total Inv-loop μ-loop
 add-total c =
-    let l = c .before .before in
+    let t = c .before .before in
+    let l = t .before in
     let b = l .before in
     omega (
       arith,
       b .pre,
-      b .pre .course-sound (l .loop .i) (c .before .loop-test .taken) .weight-most,
-      weights-to (b .args .t1) (l .loop .i) (weights-fit (b .args .t1) (l .loop .i) (b .pre) (l .loop .inv .0)),
+      b .pre .course-sound (l .loop .i) (t .loop-test .taken) .weight-most,
+      weights-to (b .args .t1 .weight) (b .args .t1 .list) (l .loop .i) (λ i h. b .pre .course-sound i (omega arith) .weight-most),
     )
 
 add-i : tie.Need-add-i Inv-loop μ-loop
@@ -45,7 +46,9 @@ loop-less : tie.Need-loop-less Inv-loop μ-loop
 loop-less c = search needs
 
 loop-again : tie.Need-loop-again Inv-loop μ-loop
-loop-again c = (search needs, omega (arith, sum-more (c .before .before .loop .i) (weight (c .before .before .before .args .t1))))
+loop-again c =
+    let l = c .before .before .before in
+    (search needs, omega (arith, sum-more (l .loop .i) (weight (l .before .args .t1))))
 
 returns : tie.Need-returns Inv-loop μ-loop
 unfolding allCredits

@@ -6,7 +6,7 @@ use native.Mathlib.Omega.{arith}
 use borrow.Author.Needs.{needs}
 use Rattle.theory.specs.Tests.{all}
 use Rattle.theory.proofs.TestLaws.{all-more}
-use Rattle.year.specs.Sums.{placedAt, allPlaced}
+use Rattle.year.specs.Sums.{isPlaced, placedAt, allPlaced}
 use Rattle.totals.proofs.all_placed.Statement.{statement}
 use Rattle.totals.proofs.all_placed.Tie as tie
 
@@ -20,11 +20,20 @@ loop-holds : tie.Need-loop-holds Inv-loop μ-loop
 unfolding all
 loop-holds c = search needs
 
-mul-is-placed : tie.Need-mul-is-placed Inv-loop μ-loop
-mul-is-placed c = search needs
+mul-course-of : tie.Need-mul-course-of Inv-loop μ-loop
+mul-course-of c = search needs
 
-element-copy-out-is-placed : tie.Need-element-copy-out-is-placed Inv-loop μ-loop
-element-copy-out-is-placed c = search needs
+element-copy-out-course-of : tie.Need-element-copy-out-course-of Inv-loop μ-loop
+element-copy-out-course-of c = search needs
+
+mul-course-of-2 : tie.Need-mul-course-of-2 Inv-loop μ-loop
+mul-course-of-2 c = search needs
+
+element-copy-out-course-of-2 : tie.Need-element-copy-out-course-of-2 Inv-loop μ-loop
+element-copy-out-course-of-2 c = search needs
+
+course-of-requires : tie.Need-course-of-requires Inv-loop μ-loop
+course-of-requires c κs = search needs
 
 is-placed-requires : tie.Need-is-placed-requires Inv-loop μ-loop
 is-placed-requires c κs = search needs
@@ -37,8 +46,9 @@ loop-less c = search needs
 
 loop-again : tie.Need-loop-again Inv-loop μ-loop
 loop-again c =
-    let l = c .before .before .before in
-    (search needs, ap₂ _&&_ (l .loop .inv .1) (c .is-placed .ensures) ∙ sym (all-more (l .loop .i) (placedAt (l .before .args .t1))))
+    let o = c .before in
+    let l = o .before .before .before .before in
+    (search needs, ap₂ _&&_ (l .loop .inv .1) (c .is-placed .ensures ∙ ap isPlaced (o .course-of .ensures)) ∙ sym (all-more (l .loop .i) (placedAt (l .before .args .t1))))
 
 returns : tie.Need-returns Inv-loop μ-loop
 unfolding allPlaced
@@ -54,8 +64,11 @@ all-placed-spec =
     Inv-loop
     μ-loop
     loop-holds
-    mul-is-placed
-    element-copy-out-is-placed
+    mul-course-of
+    element-copy-out-course-of
+    mul-course-of-2
+    element-copy-out-course-of-2
+    course-of-requires
     is-placed-requires
     add-i
     loop-less

@@ -1,35 +1,20 @@
 -- The loop's invariant: the sums so far are those of the first i courses. That none of them overflows follows from the weights' size.
-use Prim.Native.Nat.{ℕ, _≤_, _<_, _-_}
-use mathlib.Core.Path.{_≡_, sym, ap, ap₂, subst, _∙_}
+use Prim.Native.Nat.{_≤_, _-_}
+use mathlib.Core.Path.{_≡_, sym, ap, ap₂, _∙_}
 use native.Mathlib.Omega.{arith}
 use borrow.Author.Needs.{needs}
 use Rattle.theory.specs.Sum.{sum}
-use Rattle.year.specs.Year.{courseAt, weight}
+use Rattle.year.specs.Year.{weight}
 use Rattle.year.specs.SumsOf.{sumsTo, sumsWith}
-use Rattle.totals.specs.Parts.{coursesOnly}
-use Rattle.year.specs.declared.Course.{Course}
 use Rattle.year.proofs.SumLaws.{sums-more, sums-fit}
-use Rattle.totals.proofs.PartLaws.{course-in}
 use Rattle.totals.proofs.sums_in.Statement.{statement}
 use Rattle.totals.proofs.sums_in.Tie as tie
 
 abbrev Inv-loop : tie.InvT-loop
-Inv-loop weight list n j s₀ i₀ s i = (i ≤ n) × (s ≡ sumsTo (coursesOnly weight list) j i)
+Inv-loop weight list n j s₀ i₀ s i = (i ≤ n) × (s ≡ sumsTo weight list i j)
 
 abbrev μ-loop : tie.MeasureT-loop
 μ-loop weight list n j s₀ i₀ s i = n - i
-
--- the course at hand is the year's, and no weight is past its size
-read : (c : tie.After-course Inv-loop μ-loop) → let l = c .before .before in let a = l .before .before .before .before .args in c .course .result ≡ courseAt (coursesOnly (a .weight .now) (a .list .now)) (l .loop .i)
-read c =
-    let l = c .before .before in
-    let a = l .before .before .before .before .args in
-    c .course .ensures ∙ sym (course-in (a .weight .now) (a .list .now) (l .loop .i) (omega arith))
-
-weights : (c : tie.After-course Inv-loop μ-loop) → let a = c .before .before .before .before .before .before .args in (i : ℕ) → i < a .n → weight (coursesOnly (a .weight .now) (a .list .now)) i ≤ 1000
-weights c i h =
-    let b = c .before .before .before .before .before .before in
-    subst (λ (x : Course). x .weight .0 ≤ 1000) (sym (course-in (b .args .weight .now) (b .args .list .now) i (omega arith))) (b .pre .1 i h)
 
 nothing-requires : tie.Need-nothing-requires Inv-loop μ-loop
 nothing-requires c κs = search needs
@@ -38,17 +23,15 @@ loop-holds : tie.Need-loop-holds Inv-loop μ-loop
 unfolding sum
 loop-holds c = (search needs, c .nothing .ensures)
 
-course-requires : tie.Need-course-requires Inv-loop μ-loop
-course-requires c κs = search needs
+course-in-requires : tie.Need-course-in-requires Inv-loop μ-loop
+course-in-requires c κs = search needs
 
 with-course-requires : tie.Need-with-course-requires Inv-loop μ-loop
 with-course-requires c κs =
     let l = c .before .before in
     let b = l .before .before .before .before in
-    let y = coursesOnly (b .args .weight .now) (b .args .list .now) in
-    let is : c .course .result ≡ courseAt y (l .loop .i) = read c in
-    let fit = sums-fit y (b .args .j) (l .loop .i) (l .loop .s) (omega arith) (λ i h. weights c i (omega arith)) (l .loop .inv .1) in
-    (search needs, (rw is (fit .0), fit .1, fit .2, fit .3, fit .4))
+    let fit = sums-fit (b .args .weight .now) (b .args .list .now) (b .args .j) (l .loop .i) (l .loop .s) (omega arith) (λ i h. b .pre .1 i (omega arith)) (l .loop .inv .1) in
+    (search needs, (rw (c .course-in .ensures) (fit .0), fit .1, fit .2, fit .3, fit .4))
 
 add-i : tie.Need-add-i Inv-loop μ-loop
 add-i c = search needs
@@ -61,14 +44,13 @@ loop-again c =
     let k = c .before in
     let l = k .before .before in
     let b = l .before .before .before .before in
-    let y = coursesOnly (b .args .weight .now) (b .args .list .now) in
-    (search needs, c .with-course .ensures ∙ ap₂ (λ z q. sumsWith z q (b .args .j)) (l .loop .inv .1) (read k) ∙ sym (sums-more y (b .args .j) (l .loop .i)))
+    (search needs, c .with-course .ensures ∙ ap₂ (λ z q. sumsWith z q (b .args .j)) (l .loop .inv .1) (k .course-in .ensures) ∙ sym (sums-more (b .args .weight .now) (b .args .list .now) (b .args .j) (l .loop .i)))
 
 returns : tie.Need-returns Inv-loop μ-loop
 returns c =
     let b = c .before .before .before .before .before in
     let is : c .before .loop .i ≡ b .args .n = omega arith in
-    c .before .loop .inv .1 ∙ ap (sumsTo (coursesOnly (b .args .weight .now) (b .args .list .now)) (b .args .j)) is
+    c .before .loop .inv .1 ∙ ap (λ n. sumsTo (b .args .weight .now) (b .args .list .now) n (b .args .j)) is
 
 pub sums-in-spec : {M : Type 1} → statement M
 sums-in-spec =
@@ -78,7 +60,7 @@ sums-in-spec =
     μ-loop
     nothing-requires
     loop-holds
-    course-requires
+    course-in-requires
     with-course-requires
     add-i
     loop-less

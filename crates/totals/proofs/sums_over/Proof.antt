@@ -1,23 +1,17 @@
 -- The loop's invariant: the array at the start, filled with the sums of the first j terms. What the others hold, nothing, is right already.
-use Prim.Native.Nat.{ℕ, _≤_, _-_}
-use mathlib.Core.List.{List}
-use mathlib.Core.Path.{_≡_, sym, ap, ap₂, _∙_}
+use Prim.Native.Nat.{_≤_, _-_}
+use mathlib.Core.Path.{_≡_, sym, ap, _∙_}
 use native.Mathlib.Omega.{arith}
-use lib.ListN.{length, replicate, set, length-replicate, getD-replicate}
+use lib.ListN.{replicate, length-replicate, getD-replicate}
 use borrow.Author.Needs.{needs}
-use Rattle.theory.proofs.TabLaws.{fill, fill-more, fill-front, length-fill}
+use Rattle.theory.proofs.TabLaws.{fill, fill-front, filling-long, filling-more}
 use Rattle.year.specs.SumsOf.{sumsTo, noSums}
-use Rattle.totals.specs.Parts.{coursesOnly}
-use Rattle.year.specs.declared.Sums.{Sums}
-use Rattle.totals.proofs.PartLaws.{sums-past}
+use Rattle.totals.proofs.ColumnLaws.{sums-past}
 use Rattle.totals.proofs.sums_over.Statement.{statement}
 use Rattle.totals.proofs.sums_over.Tie as tie
 
-abbrev sumsFor : List ℕ → List ℕ → ℕ → ℕ → Sums
-sumsFor w l n j = sumsTo (coursesOnly w l) j n
-
 abbrev Inv-loop : tie.InvT-loop
-Inv-loop weight list m n s₀ j₀ s j = (j ≤ m) × (s ≡ fill (sumsFor weight list n) s₀ j)
+Inv-loop weight list m n s₀ j₀ s j = (j ≤ m) × (s ≡ fill (sumsTo weight list n) s₀ j)
 
 abbrev μ-loop : tie.MeasureT-loop
 μ-loop weight list m n s₀ j₀ s j = m - j
@@ -38,9 +32,8 @@ mul-s c = search needs
 array-set-from-s : tie.Need-array-set-from-s Inv-loop μ-loop
 array-set-from-s c =
     let l = c .before .before in
-    let z = l .before .nothing .result in
     let a = l .before .before .before .before .args in
-    omega (arith, ap length (l .loop .inv .1), length-fill (sumsFor (a .weight .now) (a .list .now) (a .n)) (replicate 16 z) (l .loop .j), length-replicate 16 z)
+    omega (arith, filling-long (l .before .nothing .result) 16 (sumsTo (a .weight .now) (a .list .now) (a .n)) (l .loop .s) (l .loop .j) (l .loop .inv .1))
 
 add-j : tie.Need-add-j Inv-loop μ-loop
 add-j c = search needs
@@ -52,20 +45,20 @@ loop-again : tie.Need-loop-again Inv-loop μ-loop
 loop-again c =
     let l = c .before .before in
     let a = l .before .before .before .before .args in
-    (search needs, ap₂ (λ r v. set r (l .loop .j) v) (l .loop .inv .1) (c .sums-in .ensures) ∙ sym (fill-more (sumsFor (a .weight .now) (a .list .now) (a .n)) (replicate 16 (l .before .nothing .result)) (l .loop .j)))
+    (search needs, filling-more (l .before .nothing .result) 16 (sumsTo (a .weight .now) (a .list .now) (a .n)) (l .loop .s) (l .loop .j) (l .loop .inv .1) _ (c .sums-in .ensures))
 
 returns : tie.Need-returns Inv-loop μ-loop
 returns c =
     let l = c .before in
     let b = l .before .before .before .before in
     let a = b .args in
-    let f = sumsFor (a .weight .now) (a .list .now) (a .n) in
+    let f = sumsTo (a .weight .now) (a .list .now) (a .n) in
     let z = l .before .nothing .result in
     let is : l .loop .j ≡ a .m = omega arith in
     l .loop .inv .1
     ∙ ap (fill f (replicate 16 z)) is
     ∙ fill-front f (replicate 16 z) noSums 16 (a .m) (length-replicate 16 z) (omega arith)
-    (λ k p q. getD-replicate 16 k z noSums q ∙ l .before .nothing .ensures ∙ sym (sums-past (a .weight .now) (a .list .now) (a .m) (a .n) k (omega arith) p (λ i h. b .pre .1 i h .1)))
+    (λ k p q. getD-replicate 16 k z noSums q ∙ l .before .nothing .ensures ∙ sym (sums-past (a .weight .now) (a .list .now) (a .m) (a .n) k p (λ i h. b .pre .1 i h .1)))
 
 pub sums-over-spec : {M : Type 1} → statement M
 sums-over-spec =

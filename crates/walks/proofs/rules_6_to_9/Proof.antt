@@ -22,10 +22,10 @@ abbrev lent : tie.Start → Orders
 lent b = record { down = b .args .falling .now; up = b .args .rising .now }
 
 ready : (b : tie.Start) → Ready (b .args .weight .now) (b .args .s) (lent b)
-ready b = record { long = b .pre .0; sound = b .pre .1 .0; is-held = b .pre .1 .1 .0; orders-are = are }
+ready b = record { sound = b .pre .0; is-held = b .pre .1 .0; orders-are = are }
   where
     are : lent b ≡ ordersOf (yearIn (b .args .weight .now) (b .args .s))
-    are = λ i. record { down = b .pre .1 .1 .1 .0 i; up = b .pre .1 .1 .1 .1 i }
+    are = λ i. record { down = b .pre .1 .1 .0 i; up = b .pre .1 .1 .1 i }
 
 abbrev from : tie.Start → Step
 from b = stepIn (b .args .weight .now) (b .args .s)
@@ -39,7 +39,7 @@ abbrev After : ℕ → tie.Start → Bounds → Type 0
 After k b x = BoundsAt (from b) x (inRow (passesOf 6 k) (from b))
 
 before-6 : (c : tie.After-bounds-of) → After 5 (start c) (c .bounds-of .result)
-before-6 c = at-start _ _ (start c .pre .1 .0) (c .bounds-of .ensures)
+before-6 c = at-start _ _ (start c .pre .0) (c .bounds-of .ensures)
 
 after-6 : (c : tie.After-walk-rule) → After 6 (start (c .before)) (c .walk-rule .result)
 after-6 c = row (ready (start (c .before))) LeastCount (before-6 (c .before)) (c .walk-rule .ensures)
@@ -61,7 +61,7 @@ slice-aggregate-list c = search needs
 tallies-of-requires : tie.Need-tallies-of-requires
 tallies-of-requires c κs =
     let b = c .before .before .before .before .before .before in
-    sums-fit (from b .year) _ (b .pre .1 .0) (sums-held _ _ (b .pre .1 .1 .0))
+    sums-fit (from b .year) _ (b .pre .0) (sums-held _ _ (b .pre .1 .0))
 
 bounds-of-requires : tie.Need-bounds-of-requires
 bounds-of-requires c κs = search needs
@@ -82,7 +82,7 @@ with-bounds-requires : tie.Need-with-bounds-requires
 with-bounds-requires c κs = search needs
 
 returns : tie.Need-returns
-returns c = c .with-bounds .ensures ∙ at-end _ _ _ (after-9 (c .before)) _ (start (c .before .before .before .before .before) .pre .1 .1 .0)
+returns c = c .with-bounds .ensures ∙ at-end _ _ _ (after-9 (c .before)) _ (start (c .before .before .before .before .before) .pre .1 .0)
 
 pub rules-6-to-9-spec : {M : Type 1} → statement M
 rules-6-to-9-spec =

@@ -8,10 +8,9 @@ use lib.ListN.{length}
 use borrow.Author.Needs.{needs}
 use Rattle.theory.specs.Fold.{fold}
 use Rattle.year.specs.Sound.{TermSound}
-use Rattle.totals.specs.Parts.{termIn}
 use Rattle.rules.specs.declared.Outcome.{Outcome}
 use Rattle.bounds.specs.AtTerm.{totalsTo, otherTermsOf, otherTermsAt}
-use Rattle.frame.specs.Bounds.{boundsOver}
+use Rattle.frame.specs.Bounds.{boundsOver, termIn}
 use Rattle.frame.specs.declared.Bounds.{Bounds}
 use Rattle.bounds.specs.declared.Totals.{Totals}
 use Rattle.bounds.proofs.AtTermLaws.{totals-fit, entry-le, totals-set, other-terms-sound}

@@ -4,7 +4,7 @@ use mathlib.Core.Path.{_≡_, sym, ap, _∙_}
 use native.Mathlib.Omega.{arith}
 use borrow.Author.Needs.{needs}
 use Rattle.theory.specs.Sum.{sum}
-use Rattle.totals.specs.Parts.{termIn}
+use Rattle.frame.specs.Bounds.{termIn}
 use Rattle.bounds.specs.AtTerm.{totalsTo, totalsWith}
 use Rattle.bounds.proofs.AtTermLaws.{totals-more, totals-fit}
 use Rattle.bounds.proofs.terms.totals.Statement.{statement}

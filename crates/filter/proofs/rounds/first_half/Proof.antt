@@ -10,7 +10,7 @@ use Rattle.rules.specs.Round.{inRow, passesOf}
 use Rattle.rules.proofs.Narrows.{narrower-self}
 use Rattle.rules.proofs.Passes.{lawful-part, row-last}
 use Rattle.filter.specs.Halves.{firstHalf}
-use Rattle.filter.proofs.StateAt.{Own, own-in, StateAt, state-sound, state-self, state-rule, state-row}
+use Rattle.filter.proofs.StateAt.{StateAt, state-sound, state-self, state-rule, state-row}
 use Rattle.filter.proofs.rounds.first_half.Statement.{statement}
 use Rattle.filter.proofs.rounds.first_half.Tie as tie
 
@@ -22,11 +22,8 @@ w b = b .args .weight .now
 abbrev y : tie.Start → Year
 y b = yearIn (w b) (b .args .s)
 
-own : (b : tie.Start) → Own (w b) (y b)
-own b = own-in (w b) (b .args .s)
-
 at0 : (b : tie.Start) → StateAt (y b) (b .args .s) (live (y b))
-at0 b = record { is = b .pre .1 .1 .0; narrower = narrower-self (y b) (b .pre .1 .0) }
+at0 b = record { is = b .pre .1 .0; narrower = narrower-self (y b) (b .pre .0) }
 
 abbrev step2 : tie.Start → Step
 step2 b = inRow (passesOf 1 2) (live (y b))
@@ -34,7 +31,7 @@ step2 b = inRow (passesOf 1 2) (live (y b))
 at2 : (c : tie.After-rules-1-2) → let b = c .before .before in StateAt (y b) (c .rules-1-2 .result) (step2 b)
 at2 c =
     let b = c .before .before in
-    state-row (w b) (y b) (own b) (b .args .s) (live (y b)) (at0 b) 1 2 (c .rules-1-2 .result) (c .rules-1-2 .ensures)
+    state-row (y b) (b .args .s) (live (y b)) (at0 b) 1 2 (c .rules-1-2 .result) (c .rules-1-2 .ensures)
 
 abbrev step3 : tie.Start → Step
 step3 b = inRow (passesOf 1 3) (live (y b))
@@ -43,14 +40,14 @@ at3 : (c : tie.After-rule-3) → let b = c .before .before .before .before .befo
 at3 c =
     let a = c .before .before .before in
     let b = a .before .before in
-    state-row (w b) (y b) (own b) (a .rules-1-2 .result) (step2 b) (at2 a) 3 3 (c .rule-3 .result) (c .rule-3 .ensures)
+    state-row (y b) (a .rules-1-2 .result) (step2 b) (at2 a) 3 3 (c .rule-3 .result) (c .rule-3 .ensures)
 
 -- ---- the needs
 
 rules-1-2-requires : tie.Need-rules-1-2-requires
 rules-1-2-requires c κs =
     let b = c .before in
-    (b .pre .1 .0, (state-self (w b) (y b) (own b) (b .args .s) (live (y b)) (at0 b), b .pre .1 .1 .1))
+    (b .pre .0, (state-self (y b) (b .args .s) (live (y b)) (at0 b), b .pre .1 .1))
 
 returns : tie.Need-returns
 unfolding firstHalf
@@ -58,7 +55,7 @@ returns c =
     let a = c .before .before in
     let b = a .before .before in
     let x = step2 b in
-    let d = ne-eqb (x .rule) 0 (λ e. c .if1 .taken (state-rule (w b) (y b) (own b) (a .rules-1-2 .result) x (at2 a) ∙ e)) in
+    let d = ne-eqb (x .rule) 0 (λ e. c .if1 .taken (state-rule (y b) (a .rules-1-2 .result) x (at2 a) ∙ e)) in
     at2 a .is ∙ ap held (sym (row-last (passesOf 3 5) (lawful-part 3 5) x d))
 
 rule-3-requires : tie.Need-rule-3-requires
@@ -67,21 +64,21 @@ rule-3-requires c κs =
     let b = a .before .before in
     let x = step2 b in
     let r = a .rules-1-2 .result in
-    (b .pre .0, (state-sound (w b) (y b) (own b) r x (at2 a), state-self (w b) (y b) (own b) r x (at2 a)))
+    (state-sound (y b) r x (at2 a), state-self (y b) r x (at2 a))
 
 rules-4-5-requires : tie.Need-rules-4-5-requires
 rules-4-5-requires c κs =
     let b = c .before .before .before .before .before in
     let x = step3 b in
     let r = c .rule-3 .result in
-    (state-sound (w b) (y b) (own b) r x (at3 c), state-self (w b) (y b) (own b) r x (at3 c))
+    (state-sound (y b) r x (at3 c), state-self (y b) r x (at3 c))
 
 returns-2 : tie.Need-returns-2
 unfolding firstHalf
 returns-2 c =
     let a = c .before in
     let b = a .before .before .before .before .before in
-    state-row (w b) (y b) (own b) (a .rule-3 .result) (step3 b) (at3 a) 4 5 (c .rules-4-5 .result) (c .rules-4-5 .ensures) .is
+    state-row (y b) (a .rule-3 .result) (step3 b) (at3 a) 4 5 (c .rules-4-5 .result) (c .rules-4-5 .ensures) .is
 
 pub first-half-spec : {M : Type 1} → statement M
 first-half-spec = tie.close (tie.spec rules-1-2-requires returns rule-3-requires rules-4-5-requires returns-2)

@@ -1,13 +1,9 @@
 -- The loop's invariant is `BeforeRound`: each need is one of its laws at the values of the code.
-use Prim.Native.Nat.{ℕ, _+_}
-use mathlib.Core.List.{List}
-use mathlib.Core.Path.{_≡_, sym, ap, subst, _∙_}
+use Prim.Native.Nat.{_+_}
+use mathlib.Core.Path.{sym, ap, subst, _∙_}
 use native.Mathlib.Omega.{arith}
-use lib.ListN.{length}
 use borrow.Author.Needs.{needs}
 use borrow.Author.Tests.{not-true, not-false}
-use Rattle.totals.specs.Parts.{weightsOf}
-use Rattle.totals.specs.declared.Columns.{Columns}
 use Rattle.year.specs.Sound.{Sound}
 use Rattle.year.specs.declared.Year.{Year}
 use Rattle.frame.specs.State.{yearIn}
@@ -20,32 +16,23 @@ use Rattle.filter.proofs.rounds.run.Statement.{statement}
 use Rattle.filter.proofs.rounds.run.Tie as tie
 
 abbrev Inv-loop : tie.InvT-loop
-Inv-loop y weight all o₀ s₀ n₀ o s n = laws.BeforeRound y weight o s n
+Inv-loop y weight all o₀ s₀ n₀ o s n = laws.BeforeRound y o s n
 
 abbrev μ-loop : tie.MeasureT-loop
-μ-loop y weight all o₀ s₀ n₀ o s n = leeway (yearIn weight s)
+μ-loop y weight all o₀ s₀ n₀ o s n = leeway (yearIn (y .weight) s)
 
 -- ---- the values of the code
 
-abbrev before : tie.At-loop Inv-loop μ-loop → tie.After-apart Inv-loop μ-loop
-before l = l .before .before .before .before
+abbrev start : tie.At-loop Inv-loop μ-loop → tie.Start Inv-loop μ-loop
+start l = l .before .before .before .before
 
 abbrev y : tie.At-loop Inv-loop μ-loop → Year
-y l = before l .before .args .y
+y l = start l .args .y
 
-abbrev w : tie.At-loop Inv-loop μ-loop → List ℕ
-w l = before l .apart .result .weight
-
-own : (l : tie.At-loop Inv-loop μ-loop) → w l ≡ weightsOf (y l)
-own l = ap (λ (q : Columns). q .weight) (before l .apart .ensures)
-
-long : (l : tie.At-loop Inv-loop μ-loop) → length (w l) ≡ 64
-long l = laws.long (y l) (w l) (before l .before .pre) (own l)
+abbrev sound : (l : tie.At-loop Inv-loop μ-loop) → Sound (y l)
+sound l = start l .pre
 
 -- ---- the needs
-
-apart-requires : tie.Need-apart-requires Inv-loop μ-loop
-apart-requires c κs = search needs
 
 all-credits-requires : tie.Need-all-credits-requires Inv-loop μ-loop
 all-credits-requires c κs = search needs
@@ -54,21 +41,16 @@ start-requires : tie.Need-start-requires Inv-loop μ-loop
 start-requires c κs = search needs
 
 loop-holds : tie.Need-loop-holds Inv-loop μ-loop
-loop-holds c =
-    let a = c .before .before .before in
-    laws.before-first (a .before .args .y) (a .apart .result .weight) (a .before .pre) (ap (λ (q : Columns). q .weight) (a .apart .ensures)) _ (c .start .result) (c .start .ensures)
+loop-holds c = let b = c .before .before .before in laws.before-first (b .args .y) (b .pre) _ (c .start .result) (c .start .ensures)
 
 slice-aggregate-first-half : tie.Need-slice-aggregate-first-half Inv-loop μ-loop
-slice-aggregate-first-half c = sym (long (c .before))
+slice-aggregate-first-half c = sym (sound (c .before) .weight-length)
 
 first-half-requires : tie.Need-first-half-requires Inv-loop μ-loop
 first-half-requires c κs =
     let l = c .before in
     let g = l .loop .inv in
-    let sound = before l .before .pre in (
-      long l,
-      (g .narrower .sound, (g .is, laws.credits (y l) (w l) sound (own l) (l .loop .o) (l .loop .s) (l .loop .n) g _ (l .before .before .all-credits .ensures))),
-    )
+    (g .narrower .sound, (g .is, laws.credits (y l) (sound l) (l .loop .o) (l .loop .s) (l .loop .n) g _ (l .before .before .all-credits .ensures)))
 
 add-n : tie.Need-add-n Inv-loop μ-loop
 add-n c =
@@ -82,35 +64,31 @@ returns : tie.Need-returns Inv-loop μ-loop
 returns c =
     let h = c .before .before .before in
     let l = h .before .before in
-    laws.first-ended (y l) (w l) (before l .before .pre) (own l) (l .loop .o) (l .loop .s) (l .loop .n) (l .loop .inv) (h .first-half .result) (h .first-half .ensures)
+    laws.first-ended (y l) (sound l) (l .loop .o) (l .loop .s) (l .loop .n) (l .loop .inv) (h .first-half .result) (h .first-half .ensures)
     (c .before .if1 .taken) (c .no-plan .result) (c .no-plan .ensures)
 
 slice-aggregate-orders-by : tie.Need-slice-aggregate-orders-by Inv-loop μ-loop
-slice-aggregate-orders-by c = sym (long (c .before .before .before .before .before))
+slice-aggregate-orders-by c = sym (sound (c .before .before .before .before .before) .weight-length)
 
 orders-by-requires : tie.Need-orders-by-requires Inv-loop μ-loop
 orders-by-requires c κs =
     let l = c .before .before .before .before .before in
-    let f = weights-fit (y l) (w l) (before l .before .pre) (own l) in
+    let f = weights-fit (y l) (sound l) in
     (f .0, (f .1, l .loop .inv .orders))
 
 slice-aggregate-second-half : tie.Need-slice-aggregate-second-half Inv-loop μ-loop
-slice-aggregate-second-half c = sym (long (c .before .before .before .before .before .before .before))
+slice-aggregate-second-half c = sym (sound (c .before .before .before .before .before .before .before) .weight-length)
 
 second-half-requires : tie.Need-second-half-requires Inv-loop μ-loop
 second-half-requires c κs =
     let h = c .before .before .before .before .before in
     let l = h .before .before in
-    let sound = before l .before .pre in
     let r = h .first-half .result in
     let e = h .first-half .ensures in (
-      long l,
+      laws.first-sound (y l) (sound l) (l .loop .o) (l .loop .s) (l .loop .n) (l .loop .inv) r e,
       (
-        laws.first-sound (y l) (w l) sound (own l) (l .loop .o) (l .loop .s) (l .loop .n) (l .loop .inv) r e,
-        (
-          laws.first-self (y l) (w l) sound (own l) (l .loop .o) (l .loop .s) (l .loop .n) (l .loop .inv) r e,
-          laws.first-orders (y l) (w l) sound (own l) (l .loop .o) (l .loop .s) (l .loop .n) (l .loop .inv) r e (c .before .orders-by .result) (c .before .orders-by .ensures),
-        ),
+        laws.first-self (y l) (sound l) (l .loop .o) (l .loop .s) (l .loop .n) (l .loop .inv) r e,
+        laws.first-orders (y l) (sound l) (l .loop .o) (l .loop .s) (l .loop .n) (l .loop .inv) r e (c .before .orders-by .result) (c .before .orders-by .ensures),
       ),
     )
 
@@ -122,35 +100,22 @@ returns-2 c =
     let k = c .before .before .before in
     let h = k .before .before .before .before .before .before in
     let l = h .before .before in
-    laws.second-ended (y l) (w l) (before l .before .pre) (own l) (l .loop .o) (l .loop .s) (l .loop .n) (l .loop .inv) (h .first-half .result) (h .first-half .ensures)
+    laws.second-ended (y l) (sound l) (l .loop .o) (l .loop .s) (l .loop .n) (l .loop .inv) (h .first-half .result) (h .first-half .ensures)
     (k .second-half .result) (k .second-half .ensures) (c .before .if2 .taken) (c .no-plan2 .result) (c .no-plan2 .ensures)
 
-slice-aggregate-year-in : tie.Need-slice-aggregate-year-in Inv-loop μ-loop
-slice-aggregate-year-in c = sym (long (c .before .before .before .before .before .before .before .before .before .before .before .before .before))
-
 -- the state after a round holds a sound year
-sound-after : (k : tie.After-second-half Inv-loop μ-loop) → Sound (yearIn (w (k .before .before .before .before .before .before .before .before)) (k .second-half .result))
+sound-after : (k : tie.After-second-half Inv-loop μ-loop) → Sound (yearIn (y (k .before .before .before .before .before .before .before .before) .weight) (k .second-half .result))
 sound-after k =
     let h = k .before .before .before .before .before .before in
     let l = h .before .before in
-    laws.second-sound (y l) (w l) (before l .before .pre) (own l) (l .loop .o) (l .loop .s) (l .loop .n) (l .loop .inv) (h .first-half .result) (h .first-half .ensures)
+    laws.second-sound (y l) (sound l) (l .loop .o) (l .loop .s) (l .loop .n) (l .loop .inv) (h .first-half .result) (h .first-half .ensures)
     (k .second-half .result) (k .second-half .ensures)
 
 year-in-requires : tie.Need-year-in-requires Inv-loop μ-loop
-year-in-requires c κs =
-    let k = c .before .before .before .before .before in
-    let h = k .before .before .before .before .before .before in
-    let l = h .before .before in (
-      long l,
-      (
-        sound-after k,
-        laws.second-self (y l) (w l) (before l .before .pre) (own l) (l .loop .o) (l .loop .s) (l .loop .n) (l .loop .inv) (h .first-half .result) (h .first-half .ensures)
-            (k .second-half .result) (k .second-half .ensures),
-      ),
-    )
+year-in-requires c κs = search needs
 
 at-rest-requires : tie.Need-at-rest-requires Inv-loop μ-loop
-at-rest-requires c κs = subst Sound (sym (c .year-in .ensures)) (sound-after (c .before .before .before .before .before .before))
+at-rest-requires c κs = subst Sound (sym (c .year-in .ensures)) (sound-after (c .before .before .before .before .before))
 
 handed-back-requires : tie.Need-handed-back-requires Inv-loop μ-loop
 handed-back-requires c κs = search needs
@@ -159,12 +124,12 @@ returns-3 : tie.Need-returns-3 Inv-loop μ-loop
 returns-3 c =
     let a = c .before in
     let z = a .before in
-    let t = z .before .before in
+    let t = z .before in
     let k = t .before .before .before .before in
     let h = k .before .before .before .before .before .before in
     let l = h .before .before in
     let n = l .loop .n + 1 in
-    laws.second-at-rest (y l) (w l) (before l .before .pre) (own l) (l .loop .o) (l .loop .s) (l .loop .n) (l .loop .inv) (h .first-half .result) (h .first-half .ensures)
+    laws.second-at-rest (y l) (sound l) (l .loop .o) (l .loop .s) (l .loop .n) (l .loop .inv) (h .first-half .result) (h .first-half .ensures)
     (k .second-half .result) (k .second-half .ensures) (t .before .before .if2 .left) (not-true _ (t .if3 .taken)) (c .handed-back .result)
     (c .handed-back .ensures
     ∙ ap (λ (x : Answer). filtered x (z .year-in .result)) (a .at-rest .ensures)
@@ -175,7 +140,7 @@ loop-less c =
     let k = c .before .before .before .before in
     let h = k .before .before .before .before .before .before in
     let l = h .before .before in
-    laws.second-falls (y l) (w l) (before l .before .pre) (own l) (l .loop .o) (l .loop .s) (l .loop .n) (l .loop .inv) (h .first-half .result) (h .first-half .ensures)
+    laws.second-falls (y l) (sound l) (l .loop .o) (l .loop .s) (l .loop .n) (l .loop .inv) (h .first-half .result) (h .first-half .ensures)
     (k .second-half .result) (k .second-half .ensures) (not-false _ (c .if3 .left))
 
 loop-again : tie.Need-loop-again Inv-loop μ-loop
@@ -184,7 +149,7 @@ loop-again c =
     let b = k .before .before in
     let h = b .before .before .before .before in
     let l = h .before .before in
-    laws.second-alters (y l) (w l) (before l .before .pre) (own l) (l .loop .o) (l .loop .s) (l .loop .n) (l .loop .inv) (h .first-half .result) (h .first-half .ensures)
+    laws.second-alters (y l) (sound l) (l .loop .o) (l .loop .s) (l .loop .n) (l .loop .inv) (h .first-half .result) (h .first-half .ensures)
     (k .second-half .result) (k .second-half .ensures) (c .before .before .if2 .left) (not-false _ (c .if3 .left)) (b .orders-by .result) (b .orders-by .ensures)
 
 pub run-spec : {M : Type 1} → statement M
@@ -193,7 +158,6 @@ run-spec =
     (tie.spec
     Inv-loop
     μ-loop
-    apart-requires
     all-credits-requires
     start-requires
     loop-holds
@@ -208,7 +172,6 @@ run-spec =
     second-half-requires
     no-plan-requires-2
     returns-2
-    slice-aggregate-year-in
     year-in-requires
     at-rest-requires
     handed-back-requires

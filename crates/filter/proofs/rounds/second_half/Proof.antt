@@ -13,7 +13,7 @@ use Rattle.orders.specs.Orders.{ordersOf}
 use Rattle.orders.specs.declared.Orders.{Orders}
 use Rattle.orders.proofs.OrderLaws.{down-fits, up-fits, orders-weights}
 use Rattle.filter.specs.Halves.{secondHalf}
-use Rattle.filter.proofs.StateAt.{Own, own-in, StateAt, state-sound, state-self, state-row, state-year}
+use Rattle.filter.proofs.StateAt.{StateAt, state-sound, state-self, state-row, state-year}
 use Rattle.filter.proofs.rounds.second_half.Statement.{statement}
 use Rattle.filter.proofs.rounds.second_half.Tie as tie
 
@@ -25,14 +25,11 @@ w b = b .args .weight .now
 abbrev y : tie.Start → Year
 y b = yearIn (w b) (b .args .s)
 
-own : (b : tie.Start) → Own (w b) (y b)
-own b = own-in (w b) (b .args .s)
-
 abbrev step5 : tie.Start → Step
 step5 b = stepIn (w b) (b .args .s)
 
 at5 : (b : tie.Start) → StateAt (y b) (b .args .s) (step5 b)
-at5 b = record { is = b .pre .1 .1 .0; narrower = narrower-self (y b) (b .pre .1 .0) }
+at5 b = record { is = b .pre .1 .0; narrower = narrower-self (y b) (b .pre .0) }
 
 abbrev step9 : tie.Start → Step
 step9 b = inRow (passesOf 6 9) (step5 b)
@@ -43,7 +40,7 @@ start c = c .before .before .before .before .before .before
 at9 : (c : tie.After-rules-6-to-9) → let b = start c in StateAt (y b) (c .rules-6-to-9 .result) (step9 b)
 at9 c =
     let b = start c in
-    state-row (w b) (y b) (own b) (b .args .s) (step5 b) (at5 b) 6 9 (c .rules-6-to-9 .result) (c .rules-6-to-9 .ensures)
+    state-row (y b) (b .args .s) (step5 b) (at5 b) 6 9 (c .rules-6-to-9 .result) (c .rules-6-to-9 .ensures)
 
 abbrev step10 : tie.Start → Step
 step10 b = inRow (passesOf 6 10) (step5 b)
@@ -52,21 +49,21 @@ at10 : (c : tie.After-rule-10) → let b = start (c .before) in StateAt (y b) (c
 at10 c =
     let a = c .before in
     let b = start a in
-    state-row (w b) (y b) (own b) (a .rules-6-to-9 .result) (step9 b) (at9 a) 10 10 (c .rule-10 .result) (c .rule-10 .ensures)
+    state-row (y b) (a .rules-6-to-9 .result) (step9 b) (at9 a) 10 10 (c .rule-10 .result) (c .rule-10 .ensures)
 
 -- ---- the orders that are lent
 
 falling-is : (b : tie.Start) → b .args .o .down ≡ down (y b)
-falling-is b = ap (λ (o : Orders). o .down) (b .pre .1 .1 .1)
+falling-is b = ap (λ (o : Orders). o .down) (b .pre .1 .1)
 
 rising-is : (b : tie.Start) → b .args .o .up ≡ up (y b)
-rising-is b = ap (λ (o : Orders). o .up) (b .pre .1 .1 .1)
+rising-is b = ap (λ (o : Orders). o .up) (b .pre .1 .1)
 
 falling-long : (b : tie.Start) → 64 ≡ length (b .args .o .down)
-falling-long b = sym (ap length (falling-is b) ∙ down-fits (y b) (b .pre .1 .0) .long)
+falling-long b = sym (ap length (falling-is b) ∙ down-fits (y b) (b .pre .0) .long)
 
 rising-long : (b : tie.Start) → 64 ≡ length (b .args .o .up)
-rising-long b = sym (ap length (rising-is b) ∙ up-fits (y b) (b .pre .1 .0) .long)
+rising-long b = sym (ap length (rising-is b) ∙ up-fits (y b) (b .pre .0) .long)
 
 -- no rule alters a weight, so the courses stand in the order that they stood in
 still-rising : (c : tie.After-rule-10) → let b = start (c .before) in b .args .o .up ≡ up (yearIn (w b) (c .rule-10 .result))
@@ -74,9 +71,9 @@ still-rising c =
     let b = start (c .before) in
     let n = at10 c .narrower in
     ap (λ (o : Orders). o .up)
-    (b .pre .1 .1 .1
+    (b .pre .1 .1
     ∙ sym (orders-weights (y b) (step10 b .year) (n .courses-same) (n .weight-same))
-    ∙ ap ordersOf (sym (state-year (w b) (y b) (own b) (c .rule-10 .result) (step10 b) (at10 c))))
+    ∙ ap ordersOf (sym (state-year (y b) (c .rule-10 .result) (step10 b) (at10 c))))
 
 -- ---- the needs
 
@@ -89,14 +86,14 @@ slice-aggregate-rules-6-to-9-2 c = rising-long (c .before .before .before .befor
 rules-6-to-9-requires : tie.Need-rules-6-to-9-requires
 rules-6-to-9-requires c κs =
     let b = c .before .before .before .before .before in
-    (b .pre .0, (b .pre .1 .0, (b .pre .1 .1 .0, (falling-is b, rising-is b))))
+    (b .pre .0, (b .pre .1 .0, (falling-is b, rising-is b)))
 
 rule-10-requires : tie.Need-rule-10-requires
 rule-10-requires c κs =
     let b = start c in
     let x = step9 b in
     let r = c .rules-6-to-9 .result in
-    (b .pre .0, (state-sound (w b) (y b) (own b) r x (at9 c), state-self (w b) (y b) (own b) r x (at9 c)))
+    (state-sound (y b) r x (at9 c), state-self (y b) r x (at9 c))
 
 slice-aggregate-rule-11 : tie.Need-slice-aggregate-rule-11
 slice-aggregate-rule-11 c = rising-long (start (c .before .before))
@@ -107,14 +104,14 @@ rule-11-requires c κs =
     let b = start (d .before) in
     let x = step10 b in
     let r = d .rule-10 .result in
-    (b .pre .0, (state-sound (w b) (y b) (own b) r x (at10 d), (state-self (w b) (y b) (own b) r x (at10 d), still-rising d)))
+    (state-sound (y b) r x (at10 d), (state-self (y b) r x (at10 d), still-rising d))
 
 returns : tie.Need-returns
 unfolding secondHalf
 returns c =
     let a = c .before .before in
     let b = start (a .before) in
-    state-row (w b) (y b) (own b) (a .rule-10 .result) (step10 b) (at10 a) 11 11 (c .rule-11 .result) (c .rule-11 .ensures) .is
+    state-row (y b) (a .rule-10 .result) (step10 b) (at10 a) 11 11 (c .rule-11 .result) (c .rule-11 .ensures) .is
 
 pub second-half-spec : {M : Type 1} → statement M
 second-half-spec =

@@ -47,11 +47,17 @@ hours-record-requires c κs =
 enum-known-c : tie.Need-enum-known-c Inv-loop μ-loop
 enum-known-c c = search needs
 
-mul-c : tie.Need-mul-c Inv-loop μ-loop
-mul-c c = omega (arith, room (c .before))
+mul-z : tie.Need-mul-z Inv-loop μ-loop
+mul-z c = omega (arith, room (c .before))
 
-element-set-from-c : tie.Need-element-set-from-c Inv-loop μ-loop
-element-set-from-c c = room (c .before)
+element-write-z : tie.Need-element-write-z Inv-loop μ-loop
+element-write-z c = room (c .before)
+
+mul-z-2 : tie.Need-mul-z-2 Inv-loop μ-loop
+mul-z-2 c = omega (arith, room (c .before))
+
+element-write-z-2 : tie.Need-element-write-z-2 Inv-loop μ-loop
+element-write-z-2 c = room (c .before)
 
 add-z : tie.Need-add-z Inv-loop μ-loop
 add-z c = omega (arith, room (c .before))
@@ -106,8 +112,10 @@ read-hours-spec =
     mul-hours-record
     hours-record-requires
     enum-known-c
-    mul-c
-    element-set-from-c
+    mul-z
+    element-write-z
+    mul-z-2
+    element-write-z-2
     add-z
     enum-known-f
     refused-requires-2

@@ -1,5 +1,5 @@
 -- The loop's invariant: the lists after the first i courses, with p and P as they are read anew from the year with those lists.
-use Prim.Native.Nat.{_≤_, _<_, _-_}
+use Prim.Native.Nat.{_≤_, _-_}
 use mathlib.Core.Logic.{⊎-elim}
 use mathlib.Core.Path.{_≡_, refl, sym, ap, _∙_}
 use native.Mathlib.Omega.{arith}
@@ -9,10 +9,8 @@ use Rattle.year.specs.SumsOf.{sumsAt}
 use Rattle.year.specs.Sums.{fixedCredits, openCredits}
 use Rattle.year.specs.declared.Sums.{Sums}
 use Rattle.year.proofs.SumLaws.{sums-read}
-use Rattle.totals.proofs.PartLaws.{course-in}
 use Rattle.frame.specs.State.{yearIn}
-use Rattle.frame.specs.declared.State.{State}
-use Rattle.frame.proofs.StateLaws.{sums-held, list-long}
+use Rattle.frame.proofs.StateLaws.{sums-held}
 use Rattle.lists.proofs.CourseLaws.{carried-is, carriedTo, Turn, turn-at}
 use Rattle.lists.proofs.courses.each_course.Statement.{statement}
 use Rattle.lists.proofs.courses.each_course.Tie as tie
@@ -24,16 +22,15 @@ abbrev μ-loop : tie.MeasureT-loop
 μ-loop weight j whole s t list k₀ i₀ k i = s .courses - i
 
 -- what a turn finds
-at : (c : tie.After-course Inv-loop μ-loop) → let l = c .before .before .before in
+at : (c : tie.After-course-in Inv-loop μ-loop) → let l = c .before .before .before in
     let a = l .before .before .before .before .before .before .before .args in
-    Turn (a .whole) (yearIn (a .weight .now) (a .t1)) (a .j) (l .loop .i) (l .loop .k) (c .course .result)
+    Turn (a .whole) (yearIn (a .weight .now) (a .t1)) (a .j) (l .loop .i) (l .loop .k) (c .course-in .result)
 at c =
     let i = c .before .before in
     let l = i .before in
     let b = l .before .before .before .before .before .before .before in
     let a = b .args in
-    turn-at (a .whole) (yearIn (a .weight .now) (a .t1)) (a .j) (l .loop .i) (l .loop .k) (c .course .result) (b .pre .1 .0) (b .pre .0 .1) (i .loop-test .taken) (l .loop .inv .1)
-    (c .course .ensures ∙ sym (course-in (a .weight .now) (a .t1 .list) (l .loop .i) (omega (arith, b .pre .1 .0))))
+    turn-at (a .whole) (yearIn (a .weight .now) (a .t1)) (a .j) (l .loop .i) (l .loop .k) (c .course-in .result) (b .pre .1 .0) (b .pre .0) (i .loop-test .taken) (l .loop .inv .1) (c .course-in .ensures)
 
 mul-t : tie.Need-mul-t Inv-loop μ-loop
 mul-t c = search needs
@@ -53,16 +50,14 @@ loop-holds c = let b = c .before .before .before .before .before .before in
     let a = b .args in
     let y = yearIn (a .weight .now) (a .t1) in
     let u = sums-read y (a .t1 .sums) (sums-held (a .weight .now) (a .t1) (b .pre .1 .1)) (a .j) (omega (arith, b .pre .1 .0)) in
-    (search needs, carried-is _ y _ (a .j) (ap (λ (z : State). z .list) (b .pre .1 .1)) (ap (λ (z : Sums). z .fixed .0) u) (ap (λ (z : Sums). z .possible .0) u) refl)
+    (search needs, carried-is _ y _ (a .j) refl (ap (λ (z : Sums). z .fixed .0) u) (ap (λ (z : Sums). z .possible .0) u) refl)
 
-slice-aggregate-course : tie.Need-slice-aggregate-course Inv-loop μ-loop
-slice-aggregate-course c = search needs
+slice-aggregate-course-in : tie.Need-slice-aggregate-course-in Inv-loop μ-loop
+slice-aggregate-course-in c = search needs
 
-course-requires : tie.Need-course-requires Inv-loop μ-loop
-course-requires c κs = let b = c .before .before .before .before .before .before .before .before .before in
-    let a = b .args in
-    let i : c .before .before .loop .i < 64 = omega (arith, b .pre .1 .0) in
-    (omega (arith, b .pre .0 .0), omega (arith, list-long (a .weight .now) (a .t1) (b .pre .1 .1)))
+course-in-requires : tie.Need-course-in-requires Inv-loop μ-loop
+course-in-requires c κs = let sound = c .before .before .before .before .before .before .before .before .before .pre .1 .0 in
+    (omega (arith, sound), omega (arith, sound))
 
 course-verdict-requires : tie.Need-course-verdict-requires Inv-loop μ-loop
 course-verdict-requires c κs = (omega (arith, c .before .before .before .before .before .before .before .before .before .before .before .before .pre .1 .0), omega (arith, at (c .before .before) .p-small))
@@ -141,8 +136,8 @@ each-course-spec =
     mul-u
     element-copy-out-u
     loop-holds
-    slice-aggregate-course
-    course-requires
+    slice-aggregate-course-in
+    course-in-requires
     course-verdict-requires
     enum-told
     power-requires

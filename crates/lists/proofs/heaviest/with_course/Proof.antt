@@ -1,11 +1,9 @@
 -- The loop's invariant: the array at the start, filled for the first k terms.
 use Prim.Native.Nat.{_≤_, _-_}
-use mathlib.Core.Path.{_≡_, sym, ap, ap₂, _∙_}
+use mathlib.Core.Path.{_≡_}
 use native.Mathlib.Omega.{arith}
-use lib.ListN.{replicate, set, length-replicate}
 use borrow.Author.Needs.{needs}
-use Rattle.theory.proofs.TabLaws.{fill, fill-more, fill-all}
-use Rattle.year.specs.declared.Credits.{Credits}
+use Rattle.theory.proofs.TabLaws.{fill, filling-more, filling-ends}
 use Rattle.lists.specs.Heaviest.{heaviestWith}
 use Rattle.lists.proofs.heaviest.with_course.Statement.{statement}
 use Rattle.lists.proofs.heaviest.with_course.Tie as tie
@@ -46,14 +44,13 @@ loop-again c =
     let l = c .before .before .before in
     let b = l .before in
     let e = c .heavier .ensures in
-    (search needs, ap₂ (λ r v. set r (l .loop .k) v) (l .loop .inv .1) (λ i. record { 0 = e i }) ∙ sym (fill-more (heaviestWith (b .args .t1) (b .args .c)) (replicate 16 (record { 0 = 0 })) (l .loop .k)))
+    (search needs, filling-more (record { 0 = 0 }) 16 (heaviestWith (b .args .t1) (b .args .c)) (l .loop .r) (l .loop .k) (l .loop .inv .1) _ (λ i. record { 0 = e i }))
 
 returns : tie.Need-returns Inv-loop μ-loop
 returns c =
     let l = c .before in
     let f = heaviestWith (l .before .args .t1) (l .before .args .c) in
-    let is : l .loop .k ≡ 16 = omega arith in
-    l .loop .inv .1 ∙ ap (fill f (replicate 16 (record { 0 = 0 }))) is ∙ fill-all f (replicate 16 (record { 0 = 0 })) (record { 0 = 0 }) 16 (length-replicate {A = Credits} 16 (record { 0 = 0 }))
+    filling-ends (record { 0 = 0 }) 16 f (l .loop .r) (l .loop .k) (l .loop .inv .1) (omega arith)
 
 pub with-course-spec : {M : Type 1} → statement M
 with-course-spec =

@@ -6,7 +6,7 @@ use native.Mathlib.Omega.{arith}
 use borrow.Author.Needs.{needs}
 use Rattle.theory.specs.Largest.{largest}
 use Rattle.theory.proofs.LargestLaws.{largest-more}
-use Rattle.totals.specs.Parts.{highIn}
+use Rattle.frame.specs.Bounds.{highIn}
 use Rattle.packing.proofs.bins.room.Statement.{statement}
 use Rattle.packing.proofs.bins.room.Tie as tie
 

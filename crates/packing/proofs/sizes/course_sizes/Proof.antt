@@ -1,10 +1,10 @@
 -- The loop's invariant: zeros, with the sizes of the first i courses stored.
 use Prim.Native.Nat.{_≤_, _-_}
-use mathlib.Core.Path.{_≡_, sym, ap, ap₂, _∙_}
+use mathlib.Core.Path.{_≡_, ap, _∙_}
 use native.Mathlib.Omega.{arith}
-use lib.ListN.{replicate, set}
+use lib.ListN.{replicate}
 use borrow.Author.Needs.{needs}
-use Rattle.theory.proofs.TabLaws.{fill, fill-more}
+use Rattle.theory.proofs.TabLaws.{fill, filling-more}
 use Rattle.packing.specs.Sizes.{sizeOf, sizeIn, firstOf}
 use Rattle.packing.proofs.ArrayLaws.{first-is, fill-first}
 use Rattle.packing.proofs.sizes.course_sizes.Statement.{statement}
@@ -20,8 +20,8 @@ loop-holds : tie.Need-loop-holds Inv-loop μ-loop
 unfolding fill
 loop-holds c = search needs
 
-course-requires : tie.Need-course-requires Inv-loop μ-loop
-course-requires c κs = search needs
+course-in-requires : tie.Need-course-in-requires Inv-loop μ-loop
+course-in-requires c κs = search needs
 
 course-size-requires : tie.Need-course-size-requires Inv-loop μ-loop
 course-size-requires c κs = search needs
@@ -44,8 +44,8 @@ loop-again c =
     let a = l .before .before .before .args in
     let i = l .loop .i in
     let f = sizeIn (a .weight .now) (a .list .now) in
-    let size = c .course-size .ensures ∙ ap sizeOf (c .before .course .ensures) ∙ first-is (a .n) i f (c .before .before .loop-test .taken) in
-    (search needs, ap₂ (λ r v. set r i v) (l .loop .inv .1) size ∙ sym (fill-more (firstOf (a .n) f) (replicate 64 0) i))
+    let size = c .course-size .ensures ∙ ap sizeOf (c .before .course-in .ensures) ∙ first-is (a .n) i f (c .before .before .loop-test .taken) in
+    (search needs, filling-more 0 64 (firstOf (a .n) f) (l .loop .r) i (l .loop .inv .1) _ size)
 
 returns : tie.Need-returns Inv-loop μ-loop
 returns c =
@@ -62,7 +62,7 @@ course-sizes-spec =
     Inv-loop
     μ-loop
     loop-holds
-    course-requires
+    course-in-requires
     course-size-requires
     mul-r
     array-write-r

@@ -1,10 +1,10 @@
 -- The loop's invariant: zeros, with the sizes of the first k terms stored.
 use Prim.Native.Nat.{_≤_, _-_}
-use mathlib.Core.Path.{_≡_, sym, ap, ap₂, _∙_}
+use mathlib.Core.Path.{_≡_, ap, _∙_}
 use native.Mathlib.Omega.{arith}
-use lib.ListN.{replicate, set}
+use lib.ListN.{replicate}
 use borrow.Author.Needs.{needs}
-use Rattle.theory.proofs.TabLaws.{fill, fill-more}
+use Rattle.theory.proofs.TabLaws.{fill, filling-more}
 use Rattle.packing.specs.Sizes.{usedIn, firstOf}
 use Rattle.packing.proofs.ArrayLaws.{first-is, fill-first}
 use Rattle.packing.proofs.sizes.term_sizes.Statement.{statement}
@@ -57,7 +57,7 @@ loop-again c =
     let k = l .loop .k in
     let f = usedIn (a .t1) (a .t3) (a .c .0) in
     let used = c .less2 .ensures ∙ ap (λ x. a .c .0 - x) (c .before .less .ensures) ∙ first-is (a .m) k f (c .before .before .loop-test .taken) in
-    (search needs, ap₂ (λ r v. set r k v) (l .loop .inv .1) used ∙ sym (fill-more (firstOf (a .m) f) (replicate 16 0) k))
+    (search needs, filling-more 0 16 (firstOf (a .m) f) (l .loop .r) k (l .loop .inv .1) _ used)
 
 returns : tie.Need-returns Inv-loop μ-loop
 returns c =

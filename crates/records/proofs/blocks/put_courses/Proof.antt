@@ -8,7 +8,7 @@ use native.Mathlib.Omega.{arith}
 use borrow.Author.Needs.{needs}
 use lib.ListN.{length}
 use Rattle.year.specs.Sound.{Sound}
-use Rattle.records.specs.Writing.{courseBlock, joined}
+use Rattle.records.specs.Writing.{courseBytes, courseBlock, joined}
 use Rattle.records.specs.Laid.{laid}
 use Rattle.records.proofs.LayLaws as law
 
@@ -25,26 +25,36 @@ loop-holds : tie.Need-loop-holds Inv-loop μ-loop
 unfolding joined
 loop-holds c = (search needs, law.laid-nothing (c .before .args .buf .now) (c .before .args .t1 .terms * 16), refl)
 
+mul-course-of : tie.Need-mul-course-of Inv-loop μ-loop
+mul-course-of c = omega (arith, sound (c .before))
+
+element-copy-out-course-of : tie.Need-element-copy-out-course-of Inv-loop μ-loop
+element-copy-out-course-of c = omega (arith, sound (c .before))
+
+mul-course-of-2 : tie.Need-mul-course-of-2 Inv-loop μ-loop
+mul-course-of-2 c = omega (arith, sound (c .before .before))
+
+element-copy-out-course-of-2 : tie.Need-element-copy-out-course-of-2 Inv-loop μ-loop
+element-copy-out-course-of-2 c = omega (arith, sound (c .before .before))
+
+course-of-requires : tie.Need-course-of-requires Inv-loop μ-loop
+course-of-requires c κs = search needs
+
 add-put : tie.Need-add-put Inv-loop μ-loop
-add-put c = omega (arith, sound (c .before .before))
+add-put c = omega (arith, sound (c .before .before .before .before .before))
 
 mul-put : tie.Need-mul-put Inv-loop μ-loop
-mul-put c = omega (arith, sound (c .before .before))
-
-mul-course-bytes : tie.Need-mul-course-bytes Inv-loop μ-loop
-mul-course-bytes c = omega (arith, sound (c .before .before))
-
-element-copy-out-course-bytes : tie.Need-element-copy-out-course-bytes Inv-loop μ-loop
-element-copy-out-course-bytes c = omega (arith, sound (c .before .before))
+mul-put c = omega (arith, sound (c .before .before .before .before .before))
 
 course-bytes-requires : tie.Need-course-bytes-requires Inv-loop μ-loop
 course-bytes-requires c κs =
-    let s = sound (c .before .before .before) in
-    let h = s .course-sound (c .before .before .before .loop .i) (c .before .before .loop-test .taken) in
-    (omega (arith, s .courses-most), omega (arith, h .weight-most))
+    let t = c .before .before .before .before in
+    let s = sound (t .before) in
+    let h = s .course-sound (t .before .loop .i) (t .loop-test .taken) in
+    (omega (arith, s .courses-most), rw (c .before .course-of .ensures) (omega (arith, h .weight-most)))
 
 put-requires : tie.Need-put-requires Inv-loop μ-loop
-put-requires c κs = omega (arith, c .before .before .before .before .loop .inv .2, c .before .before .before .before .before .before .pre .1)
+put-requires c κs = let l = c .before .before .before .before .before .before in omega (arith, l .loop .inv .2, l .before .before .pre .1)
 
 add-i : tie.Need-add-i Inv-loop μ-loop
 add-i c = search needs
@@ -54,14 +64,17 @@ loop-less c = search needs
 
 loop-again : tie.Need-loop-again Inv-loop μ-loop
 loop-again c =
-    let a = c .before .before .before .before .before .before .before .before .before .args in
+    let b = c .before .before .before in
+    let p = b .before .before in
+    let l = p .before .before .before .before in
+    let a = l .before .before .args in
     let y = a .t1 in
-    let i = c .before .before .before .before .before .before .before .loop .i in
+    let i = l .loop .i in
     let is : c .before .before .put .last .0 ≡ laid (a .buf .now) (y .terms * 16) (joined (courseBlock y) (i + 1)) =
     c .before .before .put .ensures
-    ∙ ap₂ (λ (d r : List ℕ). laid d ((y .terms + i) * 16) r) (c .before .before .before .before .before .before .before .loop .inv .1) (c .before .before .before .course-bytes .ensures)
-    ∙ law.laid-block (a .buf .now) (y .terms * 16) (courseBlock y) i ((y .terms + i) * 16) (λ k. refl) (omega arith) (omega (arith, c .before .before .before .before .before .before .before .before .before .pre .1)) in
-    (search needs, is, ap length is ∙ law.length-blocks (a .buf .now) (y .terms * 16) (courseBlock y) (i + 1) (λ k. refl) (omega (arith, c .before .before .before .before .before .before .before .before .before .pre .1)))
+    ∙ ap₂ (λ (d r : List ℕ). laid d ((y .terms + i) * 16) r) (l .loop .inv .1) (b .course-bytes .ensures ∙ ap (courseBytes i) (p .course-of .ensures))
+    ∙ law.laid-block (a .buf .now) (y .terms * 16) (courseBlock y) i ((y .terms + i) * 16) (λ k. refl) (omega arith) (omega (arith, l .before .before .pre .1)) in
+    (search needs, is, ap length is ∙ law.length-blocks (a .buf .now) (y .terms * 16) (courseBlock y) (i + 1) (λ k. refl) (omega (arith, l .before .before .pre .1)))
 
 same-length : tie.Need-same-length Inv-loop μ-loop
 same-length c = search needs
@@ -79,10 +92,13 @@ put-courses-spec =
     Inv-loop
     μ-loop
     loop-holds
+    mul-course-of
+    element-copy-out-course-of
+    mul-course-of-2
+    element-copy-out-course-of-2
+    course-of-requires
     add-put
     mul-put
-    mul-course-bytes
-    element-copy-out-course-bytes
     course-bytes-requires
     put-requires
     add-i

@@ -12,12 +12,11 @@ use Rattle.theory.specs.Tab.{tab}
 use Rattle.theory.proofs.SumLaws.{sum-cong, sum-more}
 use Rattle.year.specs.Sound.{Sound}
 use Rattle.year.specs.Sums.{fixedCredits}
-use Rattle.year.specs.SumsOf.{sumsAt}
+use Rattle.year.specs.SumsOf.{sumsAt, fixedIn}
 use Rattle.year.specs.declared.Sums.{Sums}
 use Rattle.year.specs.declared.Year.{Year}
 use Rattle.year.proofs.SumLaws.{fixed-read}
 use Rattle.year.proofs.ImbalanceLaws.{term-most, credits-to, squares-to}
-use Rattle.totals.specs.Parts.{fixedIn}
 use Rattle.totals.proofs.measure.loads_of.Statement.{statement}
 use Rattle.totals.proofs.measure.loads_of.Tie as tie
 

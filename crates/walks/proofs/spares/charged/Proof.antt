@@ -3,9 +3,9 @@ use Prim.Native.Nat.{_≤_, _-_}
 use mathlib.Core.Path.{_≡_, _∙_}
 use native.Mathlib.Omega.{arith}
 use borrow.Author.Needs.{needs}
-use Rattle.theory.proofs.TabLaws.{fill}
+use Rattle.theory.proofs.TabLaws.{fill, filling-long, filling-more, filling-ends}
 use Rattle.walks.specs.Sparing.{chargedAt}
-use Rattle.walks.proofs.SparingLaws.{filling-long, filling-more, filling-ends, charged-entry}
+use Rattle.walks.proofs.SparingLaws.{charged-entry}
 use Rattle.walks.proofs.spares.charged.Statement.{statement}
 use Rattle.walks.proofs.spares.charged.Tie as tie
 
@@ -37,7 +37,7 @@ less-requires c κs = search needs
 array-write-s : tie.Need-array-write-s Inv-loop μ-loop
 array-write-s c =
     let l = c .before .before in
-    omega (arith, filling-long (chargedAt (l .before .args .t1) (l .before .args .list)) (l .loop .s) (l .loop .k) (l .loop .inv .1))
+    omega (arith, filling-long 0 16 (chargedAt (l .before .args .t1) (l .before .args .list)) (l .loop .s) (l .loop .k) (l .loop .inv .1))
 
 add-k : tie.Need-add-k Inv-loop μ-loop
 add-k c = search needs
@@ -50,12 +50,12 @@ loop-again c =
     let l = c .before .before in
     let a = l .before .args in
     let is = c .less .ensures ∙ charged-entry (a .t1) (a .list) (l .loop .k) in
-    (search needs, filling-more (chargedAt (a .t1) (a .list)) (l .loop .s) (l .loop .k) (l .loop .inv .1) _ is)
+    (search needs, filling-more 0 16 (chargedAt (a .t1) (a .list)) (l .loop .s) (l .loop .k) (l .loop .inv .1) _ is)
 
 returns : tie.Need-returns Inv-loop μ-loop
 returns c =
     let l = c .before in
-    filling-ends (chargedAt (l .before .args .t1) (l .before .args .list)) (l .loop .s) (l .loop .k) (l .loop .inv .1) (omega arith)
+    filling-ends 0 16 (chargedAt (l .before .args .t1) (l .before .args .list)) (l .loop .s) (l .loop .k) (l .loop .inv .1) (omega arith)
 
 pub charged-spec : {M : Type 1} → statement M
 charged-spec =

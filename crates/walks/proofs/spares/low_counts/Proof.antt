@@ -3,9 +3,8 @@ use Prim.Native.Nat.{_≤_, _-_}
 use mathlib.Core.Path.{_≡_, refl}
 use native.Mathlib.Omega.{arith}
 use borrow.Author.Needs.{needs}
-use Rattle.theory.proofs.TabLaws.{fill}
-use Rattle.totals.specs.Parts.{leastIn}
-use Rattle.walks.proofs.SparingLaws.{filling-long, filling-more, filling-ends}
+use Rattle.theory.proofs.TabLaws.{fill, filling-long, filling-more, filling-ends}
+use Rattle.frame.specs.Bounds.{leastIn}
 use Rattle.walks.proofs.spares.low_counts.Statement.{statement}
 use Rattle.walks.proofs.spares.low_counts.Tie as tie
 
@@ -29,7 +28,7 @@ cast-s : tie.Need-cast-s Inv-loop μ-loop
 cast-s c = let l = c .before in omega (arith, l .before .pre (l .loop .k) (c .loop-test .taken))
 
 array-write-s : tie.Need-array-write-s Inv-loop μ-loop
-array-write-s c = let l = c .before in omega (arith, filling-long (leastIn (l .before .args .t1)) (l .loop .s) (l .loop .k) (l .loop .inv .1))
+array-write-s c = let l = c .before in omega (arith, filling-long 0 16 (leastIn (l .before .args .t1)) (l .loop .s) (l .loop .k) (l .loop .inv .1))
 
 add-k : tie.Need-add-k Inv-loop μ-loop
 add-k c = search needs
@@ -38,10 +37,10 @@ loop-less : tie.Need-loop-less Inv-loop μ-loop
 loop-less c = search needs
 
 loop-again : tie.Need-loop-again Inv-loop μ-loop
-loop-again c = let l = c .before in (search needs, filling-more (leastIn (l .before .args .t1)) (l .loop .s) (l .loop .k) (l .loop .inv .1) _ refl)
+loop-again c = let l = c .before in (search needs, filling-more 0 16 (leastIn (l .before .args .t1)) (l .loop .s) (l .loop .k) (l .loop .inv .1) _ refl)
 
 returns : tie.Need-returns Inv-loop μ-loop
-returns c = let l = c .before in filling-ends (leastIn (l .before .args .t1)) (l .loop .s) (l .loop .k) (l .loop .inv .1) (omega arith)
+returns c = let l = c .before in filling-ends 0 16 (leastIn (l .before .args .t1)) (l .loop .s) (l .loop .k) (l .loop .inv .1) (omega arith)
 
 pub low-counts-spec : {M : Type 1} → statement M
 low-counts-spec =

@@ -4,9 +4,8 @@ use mathlib.Core.Path.{_≡_, ap, _∙_}
 use native.Mathlib.Omega.{arith}
 use lib.ListN.{getD}
 use borrow.Author.Needs.{needs}
-use Rattle.theory.proofs.TabLaws.{fill}
+use Rattle.theory.proofs.TabLaws.{fill, filling-long, filling-more, filling-ends}
 use Rattle.walks.specs.Sparing.{spareFrom}
-use Rattle.walks.proofs.SparingLaws.{filling-long, filling-more, filling-ends}
 use Rattle.walks.proofs.spares.spares.Statement.{statement}
 use Rattle.walks.proofs.spares.spares.Tie as tie
 
@@ -38,7 +37,7 @@ less-requires-2 c κs = search needs
 array-write-s : tie.Need-array-write-s Inv-loop μ-loop
 array-write-s c =
     let l = c .before .before .before .before .before in
-    omega (arith, filling-long (spareFrom (l .before .args .t1) (l .before .args .t2)) (l .loop .s) (l .loop .k) (l .loop .inv .1))
+    omega (arith, filling-long 0 16 (spareFrom (l .before .args .t1) (l .before .args .t2)) (l .loop .s) (l .loop .k) (l .loop .inv .1))
 
 add-k : tie.Need-add-k Inv-loop μ-loop
 add-k c = search needs
@@ -51,12 +50,12 @@ loop-again c =
     let l = c .before .before .before .before .before in
     let a = l .before .args in
     let is = c .less2 .ensures ∙ ap (λ x. getD (a .t1 .free) (l .loop .k) 0 - x) (c .before .less .ensures) in
-    (search needs, filling-more (spareFrom (a .t1) (a .t2)) (l .loop .s) (l .loop .k) (l .loop .inv .1) _ is)
+    (search needs, filling-more 0 16 (spareFrom (a .t1) (a .t2)) (l .loop .s) (l .loop .k) (l .loop .inv .1) _ is)
 
 returns : tie.Need-returns Inv-loop μ-loop
 returns c =
     let l = c .before in
-    filling-ends (spareFrom (l .before .args .t1) (l .before .args .t2)) (l .loop .s) (l .loop .k) (l .loop .inv .1) (omega arith)
+    filling-ends 0 16 (spareFrom (l .before .args .t1) (l .before .args .t2)) (l .loop .s) (l .loop .k) (l .loop .inv .1) (omega arith)
 
 pub spares-spec : {M : Type 1} → statement M
 spares-spec =

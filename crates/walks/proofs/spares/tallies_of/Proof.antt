@@ -3,9 +3,8 @@ use Prim.Native.Nat.{_≤_, _-_}
 use mathlib.Core.Path.{_≡_, refl}
 use native.Mathlib.Omega.{arith}
 use borrow.Author.Needs.{needs}
-use Rattle.theory.proofs.TabLaws.{fill}
+use Rattle.theory.proofs.TabLaws.{fill, filling-long, filling-more, filling-ends}
 use Rattle.walks.specs.Sparing.{freeIn, placedIn}
-use Rattle.walks.proofs.SparingLaws.{filling-long, filling-more, filling-ends}
 use Rattle.walks.proofs.spares.tallies_of.Statement.{statement}
 use Rattle.walks.proofs.spares.tallies_of.Tie as tie
 
@@ -29,7 +28,7 @@ cast-f : tie.Need-cast-f Inv-loop μ-loop
 cast-f c = let l = c .before in omega (arith, l .before .pre (l .loop .k) (c .loop-test .taken))
 
 array-write-f : tie.Need-array-write-f Inv-loop μ-loop
-array-write-f c = let l = c .before in omega (arith, filling-long (freeIn (l .before .args .t1)) (l .loop .f) (l .loop .k) (l .loop .inv .1))
+array-write-f c = let l = c .before in omega (arith, filling-long 0 16 (freeIn (l .before .args .t1)) (l .loop .f) (l .loop .k) (l .loop .inv .1))
 
 mul-p : tie.Need-mul-p Inv-loop μ-loop
 mul-p c = search needs
@@ -41,7 +40,7 @@ cast-p : tie.Need-cast-p Inv-loop μ-loop
 cast-p c = let l = c .before in omega (arith, l .before .pre (l .loop .k) (c .loop-test .taken))
 
 array-write-p : tie.Need-array-write-p Inv-loop μ-loop
-array-write-p c = let l = c .before in omega (arith, filling-long (placedIn (l .before .args .t1)) (l .loop .p) (l .loop .k) (l .loop .inv .2))
+array-write-p c = let l = c .before in omega (arith, filling-long 0 16 (placedIn (l .before .args .t1)) (l .loop .p) (l .loop .k) (l .loop .inv .2))
 
 add-k : tie.Need-add-k Inv-loop μ-loop
 add-k c = search needs
@@ -54,15 +53,15 @@ loop-again c =
     let l = c .before in
     let u = l .before .args .t1 in
     let k = l .loop .k in
-    (search needs, filling-more (freeIn u) (l .loop .f) k (l .loop .inv .1) _ refl, filling-more (placedIn u) (l .loop .p) k (l .loop .inv .2) _ refl)
+    (search needs, filling-more 0 16 (freeIn u) (l .loop .f) k (l .loop .inv .1) _ refl, filling-more 0 16 (placedIn u) (l .loop .p) k (l .loop .inv .2) _ refl)
 
 returns : tie.Need-returns Inv-loop μ-loop
 returns c =
     let l = c .before in
     let u = l .before .args .t1 in
     let is : l .loop .k ≡ 16 = omega arith in
-    let f = filling-ends (freeIn u) (l .loop .f) (l .loop .k) (l .loop .inv .1) is in
-    let p = filling-ends (placedIn u) (l .loop .p) (l .loop .k) (l .loop .inv .2) is in
+    let f = filling-ends 0 16 (freeIn u) (l .loop .f) (l .loop .k) (l .loop .inv .1) is in
+    let p = filling-ends 0 16 (placedIn u) (l .loop .p) (l .loop .k) (l .loop .inv .2) is in
     λ i. record { free = f i; placed = p i }
 
 pub tallies-of-spec : {M : Type 1} → statement M

@@ -3,7 +3,6 @@ use mathlib.Core.Path.{_≡_, refl, sym, ap, ap₂, _∙_}
 use native.Mathlib.Omega.{arith}
 use lib.ListN.{take}
 use borrow.Author.Needs.{needs}
-use Rattle.totals.specs.Parts.{coursesFrom}
 use Rattle.walks.specs.Walking.{walkOver, endedOf, untilOf}
 use Rattle.walks.specs.declared.Walk.{Walk}
 use Rattle.walks.proofs.WalkLaws.{sums-small, none-walked}
@@ -24,10 +23,9 @@ returns c =
     let a = b .args in
     let zero : a .u .free .0 ≡ 0 = omega (arith, t .if1 .taken) in
     let none = none-walked (a .weight .now) (a .list .now) (a .j) (a .n) (a .u) (b .pre .1 .1) (untilOf (a .rule) (a .t)) (a .order .now) (g .begun .result) (b .pre .0 .3) (b .pre .1 .0 .0) zero in
-    let cs = coursesFrom (a .weight .now) (a .list .now) in
     c .ended .ensures
     ∙ ap (endedOf (a .rule) (a .t)) (sym none)
-    ∙ ap (λ (x : Walk). endedOf (a .rule) (a .t) (walkOver cs (a .j) (untilOf (a .rule) (a .t)) (take (a .n) (a .order .now)) x)) (g .begun .ensures)
+    ∙ ap (λ (x : Walk). endedOf (a .rule) (a .t) (walkOver (a .weight .now) (a .list .now) (a .j) (untilOf (a .rule) (a .t)) (take (a .n) (a .order .now)) x)) (g .begun .ensures)
 
 until-requires : tie.Need-until-requires
 until-requires c κs = search needs
@@ -49,9 +47,8 @@ returns-2 c =
     let u = w .before in
     let g = u .before .before .before in
     let a = g .before .before .before .before .args in
-    let cs = coursesFrom (a .weight .now) (a .list .now) in
     c .ended2 .ensures
-    ∙ ap (endedOf (a .rule) (a .t)) (w .walked .ensures ∙ ap₂ (λ x (z : Walk). walkOver cs (a .j) x (take (a .n) (a .order .now)) z) (u .until .ensures) (g .begun .ensures))
+    ∙ ap (endedOf (a .rule) (a .t)) (w .walked .ensures ∙ ap₂ (λ x (z : Walk). walkOver (a .weight .now) (a .list .now) (a .j) x (take (a .n) (a .order .now)) z) (u .until .ensures) (g .begun .ensures))
 
 pub by-walk-spec : {M : Type 1} → statement M
 by-walk-spec =

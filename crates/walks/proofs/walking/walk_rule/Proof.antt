@@ -1,7 +1,6 @@
 -- The loop's invariant: the bounds are those that the first j terms leave, each within the sizes, and the low counts are theirs.
 use Prim.Native.Nat.{ℕ, _≤_, _<_, _-_}
 use mathlib.Core.Bool.{true}
-use mathlib.Core.List.{List}
 use mathlib.Core.Path.{_≡_, refl, sym, ap, ap₂, subst, _∙_}
 use native.Mathlib.Omega.{arith}
 use lib.Dec.{eqb}
@@ -11,29 +10,23 @@ use Rattle.theory.specs.Fold.{fold}
 use Rattle.theory.specs.Tab.{tab}
 use Rattle.theory.proofs.TabLaws.{length-tab}
 use Rattle.year.specs.Sound.{TermSound}
-use Rattle.totals.specs.Parts.{coursesFrom, termIn, leastIn, sumsIn}
+use Rattle.year.specs.SumsOf.{sumsIn}
 use Rattle.rules.specs.declared.Outcome.{Outcome}
-use Rattle.year.specs.declared.Sums.{Sums}
-use Rattle.year.specs.declared.Term.{Term}
-use Rattle.frame.specs.Bounds.{boundsOver}
+use Rattle.frame.specs.Bounds.{boundsOver, leastIn, termIn}
 use Rattle.frame.specs.declared.Bounds.{Bounds}
 use Rattle.frame.proofs.BoundsAt.{stored-sound}
 use Rattle.frame.proofs.BoundsOver.{goes-on, over-long, term-turn, over-finish}
 use Rattle.walks.specs.Sparing.{spareFrom}
 use Rattle.walks.specs.Walking.{walkOver, begunOf, untilOf, endedOf, walkedAt}
-use Rattle.walks.specs.declared.WalkRule.{WalkRule}
 use Rattle.walks.proofs.SparingLaws.{spares-from, low-counts-set}
 use Rattle.walks.proofs.WalkLaws.{ended-sound}
 use Rattle.walks.proofs.walking.walk_rule.Statement.{statement}
 use Rattle.walks.proofs.walking.walk_rule.Tie as tie
 
-abbrev atTerm : WalkRule → List Sums → List ℕ → List ℕ → List ℕ → ℕ → List Term → ℕ → Outcome
-atTerm rule u w l o n = walkedAt rule u (coursesFrom w l) o n
-
 abbrev Inv-loop : tie.InvT-loop
 Inv-loop rule m n tallies weight list order sums z₀ least₀ j₀ z least j =
     (j ≤ m)
-    × (z ≡ boundsOver (atTerm rule sums weight list order n) z₀ j)
+    × (z ≡ boundsOver (walkedAt rule sums weight list order n) z₀ j)
     × (least ≡ tab 16 (leastIn (z .term)))
     × ((k : ℕ) → k < 16 → TermSound (termIn (z .term) k))
 
@@ -58,7 +51,7 @@ within : (c : tie.In-loop Inv-loop μ-loop) → c .before .loop .j < length (c .
 within c = omega (arith, few c, long (c .before))
 
 -- the outcome is the definition's, with spares set up from the bounds at hand
-is-walked : (c : tie.After-by-walk Inv-loop μ-loop) → let l = c .before .before .before .before .before in let a = start l .args in c .by-walk .result ≡ atTerm (a .rule) (a .t5) (a .weight .now) (a .list .now) (a .order .now) (a .n) (l .loop .z .term) (l .loop .j)
+is-walked : (c : tie.After-by-walk Inv-loop μ-loop) → let l = c .before .before .before .before .before in let a = start l .args in c .by-walk .result ≡ walkedAt (a .rule) (a .t5) (a .weight .now) (a .list .now) (a .order .now) (a .n) (l .loop .z .term) (l .loop .j)
 is-walked c =
     let d = c .before .before in
     let l = d .before .before .before in
@@ -67,7 +60,7 @@ is-walked c =
     let j = l .loop .j in
     let fresh = d .spares .ensures ∙ ap₂ (λ x s. tab 16 (spareFrom x s)) (start l .pre .1 .1 .1 .1 .1) (l .loop .inv .2) ∙ spares-from t (a .t5) in
     c .by-walk .ensures
-    ∙ ap (λ s. endedOf (a .rule) (termIn t j) (walkOver (coursesFrom (a .weight .now) (a .list .now)) j (untilOf (a .rule) (termIn t j)) (take (a .n) (a .order .now)) (begunOf s (sumsIn (a .t5) j)))) fresh
+    ∙ ap (λ s. endedOf (a .rule) (termIn t j) (walkOver (a .weight .now) (a .list .now) j (untilOf (a .rule) (termIn t j)) (take (a .n) (a .order .now)) (begunOf s (sumsIn (a .t5) j)))) fresh
 
 -- the term is within the sizes before and after
 are-sound : (c : tie.After-by-walk Inv-loop μ-loop) → let l = c .before .before .before .before .before in TermSound (termIn (l .loop .z .term) (l .loop .j)) × TermSound (c .by-walk .result .term)

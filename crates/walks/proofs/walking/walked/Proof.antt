@@ -5,17 +5,15 @@ use mathlib.Core.Path.{_≡_, sym, ap, _∙_}
 use native.Mathlib.Omega.{arith}
 use lib.ListN.{getD, take, drop}
 use borrow.Author.Needs.{needs}
-use Rattle.totals.specs.Parts.{coursesFrom}
-use Rattle.totals.proofs.PartLaws.{course-in}
 use Rattle.walks.specs.Walking.{walkOver, stepped}
-use Rattle.walks.proofs.WalkLaws.{left, live-left, walk-goes-on, turn-at, none-left}
+use Rattle.walks.proofs.WalkLaws.{left, walk-goes-on, turn-at, none-left}
 use Rattle.walks.proofs.walking.walked.Statement.{statement}
 use Rattle.walks.proofs.walking.walked.Tie as tie
 
 abbrev Inv-loop : tie.InvT-loop
 Inv-loop weight list order n j until z₀ k₀ z k =
     (k ≤ n)
-    × (left (coursesFrom weight list) j until (drop k (take n order)) z ≡ walkOver (coursesFrom weight list) j until (take n order) z₀)
+    × (left weight list j until (drop k (take n order)) z ≡ walkOver weight list j until (take n order) z₀)
     × (z .credits .0 ≤ 64000 + 1000 * k)
     × (z .count .0 ≤ 64 + k)
 
@@ -32,19 +30,16 @@ small : (c : tie.Then1 Inv-loop μ-loop) → let b = c .before .before .before .
 small c = c .before .before .before .before .before .before .pre .1 .1 .0 (c .before .before .loop .k) (on c .0)
 
 loop-holds : tie.Need-loop-holds Inv-loop μ-loop
-loop-holds c =
-    let b = c .before .before .before in
-    let a = b .args in
-    (search needs, live-left (coursesFrom (a .weight .now) (a .list .now)) (a .j) (a .until) (take (a .n) (a .order .now)) (a .w) (b .pre .1 .0 .2), search needs, search needs)
+loop-holds c = (search needs, rw (c .before .before .before .pre .1 .0 .2), search needs, search needs)
 
-shared-slice-read-course : tie.Need-shared-slice-read-course Inv-loop μ-loop
-shared-slice-read-course c = omega (arith, on (c .before))
+shared-slice-read-course-in : tie.Need-shared-slice-read-course-in Inv-loop μ-loop
+shared-slice-read-course-in c = omega (arith, on (c .before))
 
-cast-course : tie.Need-cast-course Inv-loop μ-loop
-cast-course c = omega (arith, small (c .before))
+cast-course-in : tie.Need-cast-course-in Inv-loop μ-loop
+cast-course-in c = omega (arith, small (c .before))
 
-course-requires : tie.Need-course-requires Inv-loop μ-loop
-course-requires c κs = (omega (arith, small (c .before)), omega (arith, small (c .before)))
+course-in-requires : tie.Need-course-in-requires Inv-loop μ-loop
+course-in-requires c κs = (omega (arith, small (c .before)), omega (arith, small (c .before)))
 
 walk-step-requires : tie.Need-walk-step-requires Inv-loop μ-loop
 walk-step-requires c κs =
@@ -54,7 +49,7 @@ walk-step-requires c κs =
       search needs,
       omega (arith, on t),
       omega (arith, on t),
-      rw (c .course .ensures) (b .pre .1 .1 .1 (getD (b .args .order .now) (l .loop .k) 0) (small t)),
+      rw (c .course-in .ensures) (b .pre .1 .1 .1 (getD (b .args .order .now) (l .loop .k) 0) (small t)),
     )
 
 add-k : tie.Need-add-k Inv-loop μ-loop
@@ -68,19 +63,15 @@ loop-again c =
     let t = c .before .before .before in
     let l = t .before .before in
     let a = l .before .before .before .before .args in
-    let w = a .weight .now in
-    let m = a .list .now in
-    let o = a .order .now in
-    let read = c .before .course .ensures ∙ sym (course-in w m (getD o (l .loop .k) 0) (omega (arith, small t))) in
-    let step = c .walk-step .ensures .0 ∙ ap (λ x. stepped (l .loop .z) x (a .j) (a .until)) read in
-    let is = turn-at (coursesFrom w m) (a .j) (a .until) o (a .n) (l .loop .k) (l .loop .z) (c .walk-step .result) (omega arith) (on t .0) (on t .1) step in
+    let step = c .walk-step .ensures .0 ∙ ap (λ x. stepped (l .loop .z) x (a .j) (a .until)) (c .before .course-in .ensures) in
+    let is = turn-at (a .weight .now) (a .list .now) (a .j) (a .until) (a .order .now) (a .n) (l .loop .k) (l .loop .z) (c .walk-step .result) (omega arith) (on t .0) (on t .1) step in
     (omega (arith, on t), is ∙ l .loop .inv .1, omega (arith, c .walk-step .ensures .1), omega (arith, c .walk-step .ensures .1))
 
 returns : tie.Need-returns Inv-loop μ-loop
 returns c =
     let l = c .before .before in
     let a = l .before .before .before .before .args in
-    sym (none-left (coursesFrom (a .weight .now) (a .list .now)) (a .j) (a .until) (a .order .now) (a .n) (l .loop .k) (l .loop .z) (c .if1 .left)) ∙ l .loop .inv .1
+    sym (none-left (a .weight .now) (a .list .now) (a .j) (a .until) (a .order .now) (a .n) (l .loop .k) (l .loop .z) (c .if1 .left)) ∙ l .loop .inv .1
 
 pub walked-spec : {M : Type 1} → statement M
 walked-spec =
@@ -89,9 +80,9 @@ walked-spec =
     Inv-loop
     μ-loop
     loop-holds
-    shared-slice-read-course
-    cast-course
-    course-requires
+    shared-slice-read-course-in
+    cast-course-in
+    course-in-requires
     walk-step-requires
     add-k
     loop-less

@@ -29,11 +29,11 @@ there c =
     let b = c .before .before .before .args in
     named-in (b .t1) (b .i) (b .j) _ (c .before .before .named .ensures) (c .enum-told .given .1)
 
-mul-c : tie.Need-mul-c
-mul-c c = omega (arith, there c)
+mul-list : tie.Need-mul-list
+mul-list c = omega (arith, there c)
 
-element-copy-out-c : tie.Need-element-copy-out-c
-element-copy-out-c c = omega (arith, there c)
+element-copy-out-list : tie.Need-element-copy-out-list
+element-copy-out-list c = omega (arith, there c)
 
 lists-requires : tie.Need-lists-requires
 lists-requires c κs = there (c .before) .1
@@ -57,26 +57,26 @@ power-requires c κs = there (c .before .before .before) .1
 returns-3 : tie.Need-returns-3
 unfolding barOf
 returns-3 c =
-    let l = c .before .before .before in
+    let l = c .before .before in
     let t = l .before .before .before in
     let b = t .before .before .before .args in
     named-done (b .t1) (b .i) (b .j) _ (t .before .before .named .ensures) (t .enum-told .given .1) _ (barring (b .t1) (b .i) (b .j))
-    (simp (listed l, eq-eqb _ _ (c .if2 .taken ∙ c .before .before .power .ensures)))
+    (simp (listed l, eq-eqb _ _ (c .if2 .taken ∙ c .before .power .ensures)))
 
 struck-requires : tie.Need-struck-requires
 struck-requires c κs =
-    let l = c .before .before .before in
+    let l = c .before .before in
     let t = there (l .before .before .before) in
     (t .0, (t .1, listed l))
 
 returns-4 : tie.Need-returns-4
 unfolding barOf
 returns-4 c =
-    let l = c .before .before .before .before in
+    let l = c .before .before .before in
     let t = l .before .before .before in
     let b = t .before .before .before .args in
     named-done (b .t1) (b .i) (b .j) _ (t .before .before .named .ensures) (t .enum-told .given .1) _ (barring (b .t1) (b .i) (b .j))
-    (simp (listed l, ne-eqb _ _ (λ e. c .before .if2 .left (e ∙ sym (c .before .before .before .power .ensures))), c .struck .ensures, t .enum-told .given .1))
+    (simp (listed l, ne-eqb _ _ (λ e. c .before .if2 .left (e ∙ sym (c .before .before .power .ensures))), c .struck .ensures, t .enum-told .given .1))
 
 pub bar-spec : {M : Type 1} → statement M
 bar-spec =
@@ -85,8 +85,8 @@ bar-spec =
     named-requires
     enum-told
     returns
-    mul-c
-    element-copy-out-c
+    mul-list
+    element-copy-out-list
     lists-requires
     returns-2
     power-requires

@@ -3,10 +3,13 @@ use Prim.Native.Nat.{_≤_, _-_}
 use mathlib.Core.Path.{_≡_, sym, ap, ap₂, _∙_}
 use mathlib.Core.Bool.{_&&_}
 use native.Mathlib.Omega.{arith}
+use lib.Dec.{ltb}
 use borrow.Author.Needs.{needs}
 use Rattle.theory.specs.Tests.{all}
 use Rattle.theory.proofs.TestLaws.{all-more}
-use Rattle.year.specs.Sound.{courseGood}
+use Rattle.theory.specs.Choice.{choose}
+use Rattle.year.specs.Sound.{courseSound, courseBlank, courseGood}
+use Rattle.year.specs.declared.Course.{Course}
 use Rattle.year.proofs.sound.courses_good.Statement.{statement}
 use Rattle.year.proofs.sound.courses_good.Tie as tie
 
@@ -20,11 +23,20 @@ loop-holds : tie.Need-loop-holds Inv-loop μ-loop
 unfolding all
 loop-holds c = search needs
 
-mul-course-good : tie.Need-mul-course-good Inv-loop μ-loop
-mul-course-good c = search needs
+mul-course-of : tie.Need-mul-course-of Inv-loop μ-loop
+mul-course-of c = search needs
 
-element-copy-out-course-good : tie.Need-element-copy-out-course-good Inv-loop μ-loop
-element-copy-out-course-good c = search needs
+element-copy-out-course-of : tie.Need-element-copy-out-course-of Inv-loop μ-loop
+element-copy-out-course-of c = search needs
+
+mul-course-of-2 : tie.Need-mul-course-of-2 Inv-loop μ-loop
+mul-course-of-2 c = search needs
+
+element-copy-out-course-of-2 : tie.Need-element-copy-out-course-of-2 Inv-loop μ-loop
+element-copy-out-course-of-2 c = search needs
+
+course-of-requires : tie.Need-course-of-requires Inv-loop μ-loop
+course-of-requires c κs = search needs
 
 course-good-requires : tie.Need-course-good-requires Inv-loop μ-loop
 course-good-requires c κs = search needs
@@ -37,9 +49,10 @@ loop-less c = search needs
 
 loop-again : tie.Need-loop-again Inv-loop μ-loop
 loop-again c =
-    let l = c .before .before .before in
+    let o = c .before in
+    let l = o .before .before .before .before in
     let y = l .before .args .t1 in
-    let one : c .course-good .result ≡ courseGood y (l .loop .i) = c .course-good .ensures in
+    let one : c .course-good .result ≡ courseGood y (l .loop .i) = c .course-good .ensures ∙ ap (λ (x : Course). choose (ltb (l .loop .i) (y .courses)) (courseSound x (y .terms)) (courseBlank x)) (o .course-of .ensures) in
     (search needs, ap₂ _&&_ (l .loop .inv .1) one ∙ sym (all-more (l .loop .i) (courseGood y)))
 
 returns : tie.Need-returns Inv-loop μ-loop
@@ -54,8 +67,11 @@ courses-good-spec =
     Inv-loop
     μ-loop
     loop-holds
-    mul-course-good
-    element-copy-out-course-good
+    mul-course-of
+    element-copy-out-course-of
+    mul-course-of-2
+    element-copy-out-course-of-2
+    course-of-requires
     course-good-requires
     add-i
     loop-less

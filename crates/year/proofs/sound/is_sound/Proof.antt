@@ -1,4 +1,4 @@
--- Each early return is a clause of the test that fails. That the two arrays have their lengths is what holding a year tells.
+-- Each early return is a clause of the test that fails. That the three arrays have their lengths is what holding a year tells.
 use mathlib.Core.Path.{_≡_, sym, ap₂, _∙_}
 use mathlib.Core.Bool.{_&&_, true}
 use lib.ListN.{length, length-map}
@@ -12,8 +12,9 @@ use Rattle.year.proofs.sound.is_sound.Tie as tie
 shape : (c : tie.Start) → shaped (c .args .y) ≡ true
 shape c =
     let t : length (c .args .y .term) ≡ 16 = sym (length-map (c .args .y .term) _) ∙ c .good .0 .1 .1 .1 .1 .0 .1 .0 .1 in
-    let d : length (c .args .y .course) ≡ 64 = sym (length-map (c .args .y .course) _) ∙ c .good .0 .1 .1 .1 .1 .1 .0 .1 .0 .1 in
-    simp (eq-eqb _ _ t, eq-eqb _ _ d)
+    let w : length (c .args .y .weight) ≡ 64 = sym (length-map (c .args .y .weight) _) ∙ c .good .0 .1 .1 .1 .1 .1 .0 .1 .0 .1 in
+    let l : length (c .args .y .list) ≡ 64 = sym (length-map (c .args .y .list) _) ∙ c .good .0 .1 .1 .1 .1 .1 .1 .0 .1 .0 .1 in
+    simp (eq-eqb _ _ t, eq-eqb _ _ w, eq-eqb _ _ l)
 
 returns : tie.Need-returns
 unfolding isSound
