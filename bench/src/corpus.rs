@@ -7,6 +7,7 @@ use std::path::Path;
 
 use independent::generate::{around_a_plan, corpus_list, edge, Random};
 use independent::records;
+use independent::year::{Course, Term, Year};
 
 /// A kind of lists: the name of its file, what a reader is told of it, and how many are made.
 pub struct Kind {
@@ -16,7 +17,7 @@ pub struct Kind {
 }
 
 /// The kinds of years that the bars hold for.
-pub const KINDS: [Kind; 7] = [
+pub const KINDS: [Kind; 8] = [
     Kind { name: "small", words: "small years, 2 to 4 terms, up to 6 courses", count: 200 },
     Kind { name: "hidden", words: "a hidden plan with little slack, up to 16 by 64", count: 120 },
     Kind { name: "full", words: "the same, 16 terms by 64 courses", count: 80 },
@@ -24,6 +25,7 @@ pub const KINDS: [Kind; 7] = [
     Kind { name: "noplan", words: "no plan", count: 120 },
     Kind { name: "real", words: "the real curricula in data/", count: 12 },
     Kind { name: "large", words: "bounds up to 64,000, weights up to 1,000", count: 60 },
+    Kind { name: "random", words: "random, 2 to 8 terms by 8 to 40 courses, slack bounds", count: 120 },
 ];
 
 /// The sizes of the growth tables, and how many years are made of each.
@@ -45,6 +47,7 @@ pub fn write_all(folder: &Path) -> io::Result<()> {
         let lists = match kind.name {
             "real" => real(Path::new("data"))?,
             "large" => large(kind.count),
+            "random" => random(kind.count),
             name => made(name, kind.count),
         };
         write(&folder.join(kind.name), &lists)?;
@@ -83,6 +86,49 @@ fn large(count: usize) -> Vec<Vec<u8>> {
         }
     }
     lists
+}
+
+/// Random years with no plan in mind. A year draws its heaviest weight (5, 10 or 30) and how dense its lists are (30, 50 or
+/// 70 in a hundred); a course draws its weight up to the one and, by the other, whether it lists each term, again where it
+/// then lists none. A term's bounds are slack around its even share of all credits and of all courses: each low one is up
+/// to three quarters of the share, each high one a quarter to a whole share above it. So nearly all years are open, and in
+/// most of them filtering tightens bounds alone.
+fn random(count: usize) -> Vec<Vec<u8>> {
+    let mut random = Random::new(SEED);
+    (0..count).map(|_| records::bytes(&random_year(&mut random))).collect()
+}
+
+fn random_year(random: &mut Random) -> Year {
+    let terms = random.from(2, 8);
+    let heaviest = random.pick(&[5, 10, 30]);
+    let density = random.pick(&[30, 50, 70]);
+    let courses: Vec<Course> = (0..random.from(8, 40))
+        .map(|_| Course { weight: random.from(1, heaviest), list: random_list(random, terms, density) })
+        .collect();
+    let credits = courses.iter().map(|course| course.weight).sum::<i64>() / terms;
+    let count = courses.len() as i64 / terms;
+    let terms = (0..terms)
+        .map(|_| {
+            let (low_credits, high_credits) = slack_around(random, credits);
+            let (low_count, high_count) = slack_around(random, count);
+            Term { low_credits, high_credits, low_count, high_count }
+        })
+        .collect();
+    Year { terms, courses }
+}
+
+fn random_list(random: &mut Random, terms: i64, density: u64) -> u32 {
+    loop {
+        let list = (0..terms).filter(|_| random.percent(density)).map(|j| 1 << j).sum();
+        if list != 0 {
+            return list;
+        }
+    }
+}
+
+/// A low and a high bound around a share. A quarter is rounded up, so that a share that was rounded down has room.
+fn slack_around(random: &mut Random, share: i64) -> (i64, i64) {
+    (random.from(0, share * 3 / 4), share + random.from((share + 3) / 4, share))
 }
 
 /// Years of one size with weights up to 20 and bounds within 2 of a hidden plan.

@@ -8,7 +8,7 @@ use std::path::Path;
 use crate::corpus;
 
 /// The kinds of years of the table's columns.
-const COLUMNS: [&str; 7] = ["small", "settled", "noplan", "hidden", "full", "real", "large"];
+const COLUMNS: [&str; 8] = ["small", "settled", "noplan", "hidden", "full", "real", "large", "random"];
 
 /// What stands in `bench/parts` before the function that rule 11 calls past its bound.
 const PAST: &str = "past the bound";

@@ -38,6 +38,7 @@ pub fn make(folder: &Path, docs: &Path) -> io::Result<()> {
         kinds.push((kind.name, of_kind(folder, kind)?));
     }
     past_the_bound(folder, &kinds)?;
+    tests_of_soundness(folder);
     imbalances(folder)?;
 
     let courses = growth(folder, "courses", &corpus::COURSES, |n| corpus::sized(16, n))?;
@@ -57,7 +58,7 @@ fn times(folder: &Path, file: &str) -> io::Result<Times> {
 /// The row of a kind, and its times.
 fn of_kind(folder: &Path, kind: &Kind) -> io::Result<Times> {
     let times = times(folder, kind.name)?;
-    row(kind.words, &times, &instructions(folder, kind.name));
+    row(kind.words, &times, &or_dash(instructions(folder, kind.name)));
     Ok(times)
 }
 
@@ -90,6 +91,19 @@ fn row(words: &str, times: &Times, instructions: &str) {
     );
 }
 
+/// Instructions of the boundary's way, which does not test what it read for soundness, and of the same call with
+/// `filter(year)` in its place, which does; and what of the latter the test is.
+fn tests_of_soundness(folder: &Path) {
+    println!("\n| instructions of a filtering | boundary | `filter(year)` in its place | the test, % |");
+    println!("|---|---|---|---|");
+    for kind in &corpus::KINDS {
+        let untested = instructions(folder, kind.name);
+        let tested = instructions(folder, &format!("{}.tested", kind.name));
+        let share = untested.zip(tested).map(|(less, all)| format!("{:.1}", (all - less) * 100.0 / all));
+        println!("| {} | {} | {} | {} |", kind.words, or_dash(untested), or_dash(tested), or_dash(share));
+    }
+}
+
 /// The imbalance of settled years, which is given, and of full ones, where it is refused by 14: beside a filtering of the
 /// same list, and beside the independent program.
 fn imbalances(folder: &Path) -> io::Result<()> {
@@ -105,7 +119,7 @@ fn imbalances(folder: &Path) -> io::Result<()> {
             ratios(&library, &timing::library(&lists, Call::Filter)),
             microseconds(&independent),
             ratios(&library, &independent),
-            instructions(folder, &format!("{name}.imbalance")),
+            or_dash(instructions(folder, &format!("{name}.imbalance"))),
         );
     }
     Ok(())
@@ -134,12 +148,13 @@ fn growth(folder: &Path, what: &str, sizes: &[usize], file: impl Fn(usize) -> St
     Ok(lines)
 }
 
-/// The instructions of a call, as counted before, on average over the kind.
-fn instructions(folder: &Path, name: &str) -> String {
-    match fs::read_to_string(folder.join(format!("{name}.instructions"))) {
-        Ok(text) => text.trim().to_string(),
-        Err(_) => "-".to_string(),
-    }
+/// The instructions of a call, as counted before, on average over the kind, if they were.
+fn instructions(folder: &Path, name: &str) -> Option<f64> {
+    fs::read_to_string(folder.join(format!("{name}.instructions"))).ok()?.trim().parse().ok()
+}
+
+fn or_dash<T: ToString>(figure: Option<T>) -> String {
+    figure.map_or("-".to_string(), |figure| figure.to_string())
 }
 
 fn microseconds(times: &[f64]) -> String {
