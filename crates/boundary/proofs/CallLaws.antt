@@ -1,5 +1,5 @@
 -- How each call ends, as equations on its definition: the list is refused, the buffer is short, or the call does its own.
-use Prim.Native.Nat.{ℕ, _+_, _*_, _/_, _≤_, _<_}
+use Prim.Native.Nat.{ℕ, _+_, _*_, _≤_, _<_}
 use mathlib.Core.List.{List}
 use mathlib.Core.Path.{_≡_, refl, sym, ap, _∙_}
 use native.Mathlib.Omega.{arith}
@@ -13,7 +13,7 @@ use Rattle.records.specs.declared.Fault.{Fault}
 use Rattle.records.specs.declared.Reading.the-variants.{Done, Refused}
 use Rattle.records.specs.declared.Received.{Received}
 use Rattle.records.specs.Reading.{readList, done}
-use Rattle.records.proofs.ListLaws.{read-front, list-read, read-sound}
+use Rattle.records.proofs.ListLaws.{read-sound, read-length}
 use Rattle.records.specs.Writing.{written}
 use Rattle.hours.specs.Joining.{joinOf}
 use Rattle.hours.specs.Numbers.{joiningPlace}
@@ -30,9 +30,7 @@ module _ (s : List ℕ) (got : Received) (is : got ≡ readList s) where
   pub read-year : got .answer ≡ Done → Sound (got .year) × ((got .year .terms + got .year .courses) * 16 ≡ length s)
   read-year a =
       let e : readList s ≡ done (got .year) = sym is ∙ (λ i. record { answer = a i; year = got .year }) in
-      let l = list-read s (got .year) e in
-      let f = read-front s (length s / 16) (got .year) (l .2) in
-      (read-sound s (got .year) e, ap (λ k. k * 16) (f .count) ∙ l .1)
+      (read-sound s (got .year) e, read-length s (got .year) e)
 
   pub read-ends : (r : ℕ) → r ≡ packed (readingTold (got .answer)) → r ≡ readCode s
   unfolding readCode

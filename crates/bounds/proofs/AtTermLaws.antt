@@ -1,9 +1,8 @@
 -- The sums of the bounds over all terms, and over the other terms.
-use Prim.Native.Nat.{ℕ, zero, suc, _+_, _-_, _≤_, _<_}
+use Prim.Native.Nat.{ℕ, _+_, _-_, _≤_, _<_}
 use mathlib.Core.List.{List}
 use mathlib.Core.Path.{_≡_, refl, ap, ap₂, _∙_}
 use native.Mathlib.Omega.{arith}
-use native.Mathlib.Decide.{ℕ-discrete}
 use lib.Dec.{ltb}
 use lib.ListN.{length, set}
 use lib.Seq.{getD-set-same, getD-set-other}
@@ -13,9 +12,8 @@ use Rattle.theory.specs.Others.{others}
 use Rattle.theory.proofs.LoadLaws.{others-split}
 use Rattle.year.specs.Year.{termAt, zeroTerm}
 use Rattle.frame.specs.Bounds.{termIn, highIn, lowIn, leastIn, mostIn}
-use Rattle.year.specs.Sums.{allCredits, fixedCredits, openCredits, fixedCount, openCount}
-use Rattle.year.specs.SumsOf.{sumsAt}
-use Rattle.year.specs.Sound.{Sound, TermSound}
+use Rattle.year.specs.Sums.{allCredits, fixedCredits, openCredits, fixedCount, openCount, sumsAt}
+use Rattle.year.specs.Sound.{TermSound}
 use Rattle.year.specs.Tight.{creditsWithin, countsWithin}
 use Rattle.year.specs.declared.Term.{Term}
 use Rattle.year.specs.declared.Year.{Year}
@@ -52,27 +50,27 @@ totals-fit t k x s h e =
 
 -- ---- one entry altered
 
-module _ (t : List Term) (j : ℕ) (l : j < 16) where
+module _ (t : List Term) (m j : ℕ) (l : j < m) where
   -- an entry is among the sums
-  pub entry-le : (x : Totals) → x ≡ totalsTo t 16 → (lowIn t j ≤ x .low .0) × (highIn t j ≤ x .high .0) × (leastIn t j ≤ x .least .0) × (mostIn t j ≤ x .most .0)
+  pub entry-le : (x : Totals) → x ≡ totalsTo t m → (lowIn t j ≤ x .low .0) × (highIn t j ≤ x .high .0) × (leastIn t j ≤ x .least .0) × (mostIn t j ≤ x .most .0)
   entry-le x e = (
-    omega (arith, sum-term-le 16 j (lowIn t) l, ap (λ (z : Totals). z .low .0) e),
-    omega (arith, sum-term-le 16 j (highIn t) l, ap (λ (z : Totals). z .high .0) e),
-    omega (arith, sum-term-le 16 j (leastIn t) l, ap (λ (z : Totals). z .least .0) e),
-    omega (arith, sum-term-le 16 j (mostIn t) l, ap (λ (z : Totals). z .most .0) e),
+    omega (arith, sum-term-le m j (lowIn t) l, ap (λ (z : Totals). z .low .0) e),
+    omega (arith, sum-term-le m j (highIn t) l, ap (λ (z : Totals). z .high .0) e),
+    omega (arith, sum-term-le m j (leastIn t) l, ap (λ (z : Totals). z .least .0) e),
+    omega (arith, sum-term-le m j (mostIn t) l, ap (λ (z : Totals). z .most .0) e),
   )
 
-  module _ (long : length t ≡ 16) (v : Term) where
-    sum-set : (f : Term → ℕ) → sum 16 (λ k. f (termIn t k)) - f (termIn t j) + f v ≡ sum 16 (λ k. f (termIn (set t j v) k))
+  module _ (long : m ≤ length t) (v : Term) where
+    sum-set : (f : Term → ℕ) → sum m (λ k. f (termIn t k)) - f (termIn t j) + f v ≡ sum m (λ k. f (termIn (set t j v) k))
     sum-set f =
         let here : f (termIn (set t j v) j) ≡ f v = ap f (getD-set-same t j v zeroTerm (omega arith)) in
         omega (
           arith,
-          sum-term-le 16 j (λ k. f (termIn t k)) l,
-          sum-change 16 j (λ k. f (termIn (set t j v) k)) (λ k. f (termIn t k)) l (λ k h ne. ap f (getD-set-other t j k v zeroTerm ne)),
+          sum-term-le m j (λ k. f (termIn t k)) l,
+          sum-change m j (λ k. f (termIn (set t j v) k)) (λ k. f (termIn t k)) l (λ k h ne. ap f (getD-set-other t j k v zeroTerm ne)),
         )
 
-    pub totals-set : (x : Totals) → x ≡ totalsTo t 16 → totalsAfter x (termIn t j) v ≡ totalsTo (set t j v) 16
+    pub totals-set : (x : Totals) → x ≡ totalsTo t m → totalsAfter x (termIn t j) v ≡ totalsTo (set t j v) m
     totals-set x e =
         let a = sum-set (λ (z : Term). z .low .0) in
         let b = sum-set (λ (z : Term). z .high .0) in
@@ -86,40 +84,25 @@ pub other-terms-sound : (all : Whole) (t : Term) (x : Totals) → TermSound t �
 other-terms-sound (whole.Credits all) t x s = credits-tighter 2 _ t _ _ s .sound
 other-terms-sound (whole.Counts all) t x s = counts-tighter 5 _ t _ _ s .sound
 
--- ---- in a sound year
+-- ---- in a year
 
--- entries that are 0 add nothing
-sum-past : (n m : ℕ) (f : ℕ → ℕ) → m ≤ n → ((k : ℕ) → m ≤ k → k < n → f k ≡ 0) → sum n f ≡ sum m f
-unfolding sum
-sum-past zero m f l h = let e : m ≡ 0 = omega arith in rw e refl
-sum-past (suc n) m f l h = go (ℕ-discrete m (suc n)) (λ q. sum-past n m f q (λ k a b. h k a (omega arith)))
-  where
-    go : Dec (m ≡ suc n) → (m ≤ n → sum n f ≡ sum m f) → sum (suc n) f ≡ sum m f
-    go (yes e) ih = rw e refl
-    go (no d) ih = omega (arith, ih (omega (arith, d)), h n (omega (arith, d)) (omega arith))
+-- the sum over all terms less the term's own is the sum over the other terms
+module _ (y : Year) (j : ℕ) (h : j < y .terms) where
+  others-are : (f : Term → ℕ) → sum (y .terms) (λ k. f (termAt y k)) - f (termAt y j) ≡ others (y .terms) j (λ k. f (termAt y k))
+  others-are f = omega (arith, others-split (y .terms) j (λ k. f (termAt y k)) h)
 
--- the sum over all sixteen entries less the term's own is the sum over the other terms
-module _ (y : Year) (s : Sound y) (j : ℕ) (h : j < y .terms) where
-  others-are : (f : Term → ℕ) → f zeroTerm ≡ 0 → sum 16 (λ k. f (termAt y k)) - f (termAt y j) ≡ others (y .terms) j (λ k. f (termAt y k))
-  others-are f z =
-      omega (
-        arith,
-        sum-past 16 (y .terms) (λ k. f (termAt y k)) (omega (arith, s)) (λ k a b. ap f (s .term-blank k a b) ∙ z),
-        others-split (y .terms) j (λ k. f (termAt y k)) h,
-      )
-
-  pub rule2-is : rule2Of (termAt y j) (totalsTo (y .term) 16) (allCredits y) ≡ rule2 y j
+  pub rule2-is : rule2Of (termAt y j) (totalsTo (y .term) (y .terms)) (allCredits y) ≡ rule2 y j
   unfolding rule2
   rule2-is =
-      let low = others-are (λ t. t .low .0) refl in
-      let high = others-are (λ t. t .high .0) refl in
+      let low = others-are (λ t. t .low .0) in
+      let high = others-are (λ t. t .high .0) in
       ap₂ (λ a b. outcome 2 (ltb (allCredits y) a) (termAt y j) (creditsWithin (termAt y j) (allCredits y - b) (allCredits y - a))) low high
 
-  pub rule5-is : rule5Of (termAt y j) (totalsTo (y .term) 16) (y .courses) ≡ rule5 y j
+  pub rule5-is : rule5Of (termAt y j) (totalsTo (y .term) (y .terms)) (y .courses) ≡ rule5 y j
   unfolding rule5
   rule5-is =
-      let least = others-are (λ t. t .least .0) refl in
-      let most = others-are (λ t. t .most .0) refl in
+      let least = others-are (λ t. t .least .0) in
+      let most = others-are (λ t. t .most .0) in
       ap₂ (λ a b. outcome 5 (ltb (y .courses) a) (termAt y j) (countsWithin (termAt y j) (y .courses - b) (y .courses - a))) least most
 
 pub rule1-is : (y : Year) (j : ℕ) → rule1Of (termAt y j) (sumsAt y j) ≡ rule1 y j

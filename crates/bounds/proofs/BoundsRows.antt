@@ -1,11 +1,10 @@
 -- Rules 1, 2, 4 and 5 in a row, on the bounds alone: each gives at a term what its definition gives.
 use Prim.Native.Nat.{ℕ, _<_}
 use mathlib.Core.List.{List}
-use mathlib.Core.Path.{_≡_, sym, ap, _∙_}
+use mathlib.Core.Path.{_≡_, sym, ap, ap₂, _∙_}
 use Rattle.theory.specs.Tab.{tab}
 use Rattle.year.specs.Year.{termAt}
-use Rattle.year.specs.Sums.{allCredits}
-use Rattle.year.specs.SumsOf.{sumsAt}
+use Rattle.year.specs.Sums.{allCredits, sumsAt}
 use Rattle.year.specs.declared.Courses.{Courses}
 use Rattle.year.specs.declared.Credits as credits
 use Rattle.year.specs.declared.Sums.{Sums}
@@ -17,7 +16,7 @@ use Rattle.rules.specs.Bounds.{rule1, rule2, rule4, rule5}
 use Rattle.rules.proofs.Steps.{narrows-1, narrows-2, narrows-4, narrows-5}
 use Rattle.frame.specs.Bounds.{boundsOver}
 use Rattle.frame.specs.declared.Bounds.{Bounds}
-use Rattle.frame.proofs.BoundsOnly.{BoundsOnly, sums-same, credits-kept}
+use Rattle.frame.proofs.BoundsOnly.{BoundsOnly, credits-kept}
 use Rattle.frame.proofs.BoundsAt.{BoundsAt, at-next}
 use Rattle.bounds.specs.declared.Quantity.the-variants.{Credits, Counts}
 use Rattle.bounds.specs.declared.Whole.the-variants as whole
@@ -36,24 +35,26 @@ module _ (y : Year) (u : List Sums) (e : u ≡ tab 16 (sumsAt y)) (j : ℕ) (h :
 -- ---- rules in a row
 
 module _ (p : Step) (b : Bounds) (q : Step) (g : BoundsAt p b q) where
-  pub row-2 : (c : Bounds) (all : credits.Credits) → all .0 ≡ allCredits (p .year) → c ≡ boundsOver (otherTermsAt (whole.Credits all)) b (p .year .terms)
+  pub row-2 : (c : Bounds) (all : credits.Credits) → all .0 ≡ allCredits (p .year) → c ≡ boundsOver (otherTermsAt (p .year .terms) (whole.Credits all)) b (p .year .terms)
       → BoundsAt p c (overTerms (bounded rule2) q)
   row-2 c all e =
-      at-next p b q g (otherTermsAt (whole.Credits all)) rule2 narrows-2
-      (λ y j k h l. ap (rule2Of (termAt y j) (totalsTo (y .term) 16)) (e ∙ sym (credits-kept (p .year) y k)) ∙ rule2-is y (k .narrower .sound) j l) c
+      at-next p b q g (otherTermsAt (p .year .terms) (whole.Credits all)) rule2 narrows-2
+      (λ y j k h l.
+      ap₂ (λ m a. rule2Of (termAt y j) (totalsTo (y .term) m) a) (sym (k .narrower .terms-same)) (e ∙ sym (credits-kept (p .year) y k)) ∙ rule2-is y j l) c
 
-  pub row-5 : (c : Bounds) (all : Courses) → all .0 ≡ p .year .courses → c ≡ boundsOver (otherTermsAt (whole.Counts all)) b (p .year .terms)
+  pub row-5 : (c : Bounds) (all : Courses) → all .0 ≡ p .year .courses → c ≡ boundsOver (otherTermsAt (p .year .terms) (whole.Counts all)) b (p .year .terms)
       → BoundsAt p c (overTerms (bounded rule5) q)
   row-5 c all e =
-      at-next p b q g (otherTermsAt (whole.Counts all)) rule5 narrows-5
-      (λ y j k h l. ap (rule5Of (termAt y j) (totalsTo (y .term) 16)) (e ∙ sym (k .narrower .courses-same)) ∙ rule5-is y (k .narrower .sound) j l) c
+      at-next p b q g (otherTermsAt (p .year .terms) (whole.Counts all)) rule5 narrows-5
+      (λ y j k h l.
+      ap₂ (λ m a. rule5Of (termAt y j) (totalsTo (y .term) m) a) (sym (k .narrower .terms-same)) (e ∙ sym (k .narrower .courses-same)) ∙ rule5-is y j l) c
 
-  module _ (u : List Sums) (e : u ≡ tab 16 (sumsAt (p .year))) (c : Bounds) where
-    sums-now : (y : Year) → BoundsOnly (p .year) y → u ≡ tab 16 (sumsAt y)
-    sums-now y k = e ∙ sym (sums-same (p .year) y k)
+  -- only bounds were altered, so the sums at hand are the year's
+  sums-now : (y : Year) → BoundsOnly (p .year) y → p .year .sums ≡ tab 16 (sumsAt y)
+  sums-now y k = sym (k .sums-same) ∙ k .narrower .sound .sums-kept
 
-    pub row-1 : c ≡ boundsOver (ownSumsAt Credits u) b (p .year .terms) → BoundsAt p c (overTerms (bounded rule1) q)
-    row-1 = at-next p b q g (ownSumsAt Credits u) rule1 narrows-1 (λ y j k h l. own-1 y u (sums-now y k) j h) c
+  pub row-1 : (c : Bounds) → c ≡ boundsOver (ownSumsAt Credits (p .year .sums)) b (p .year .terms) → BoundsAt p c (overTerms (bounded rule1) q)
+  row-1 = at-next p b q g (ownSumsAt Credits (p .year .sums)) rule1 narrows-1 (λ y j k h l. own-1 y (p .year .sums) (sums-now y k) j h)
 
-    pub row-4 : c ≡ boundsOver (ownSumsAt Counts u) b (p .year .terms) → BoundsAt p c (overTerms (bounded rule4) q)
-    row-4 = at-next p b q g (ownSumsAt Counts u) rule4 narrows-4 (λ y j k h l. own-4 y u (sums-now y k) j h) c
+  pub row-4 : (c : Bounds) → c ≡ boundsOver (ownSumsAt Counts (p .year .sums)) b (p .year .terms) → BoundsAt p c (overTerms (bounded rule4) q)
+  row-4 = at-next p b q g (ownSumsAt Counts (p .year .sums)) rule4 narrows-4 (λ y j k h l. own-4 y (p .year .sums) (sums-now y k) j h)

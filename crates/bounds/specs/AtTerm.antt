@@ -5,7 +5,7 @@ use mathlib.Core.List.{List}
 use lib.Dec.{ltb}
 use Rattle.theory.specs.Sum.{sum}
 use Rattle.frame.specs.Bounds.{termIn, lowIn, highIn, leastIn, mostIn}
-use Rattle.year.specs.SumsOf.{sumsIn}
+use Rattle.year.specs.Sums.{sumsIn}
 use Rattle.year.specs.Tight.{creditsWithin, countsWithin}
 use Rattle.year.specs.declared.Term.{Term}
 use Rattle.year.specs.declared.Sums.{Sums}
@@ -74,10 +74,10 @@ abbrev pub otherTermsOf : Whole → Term → Totals → Outcome
 otherTermsOf (whole.Credits all) t x = rule2Of t x (all .0)
 otherTermsOf (whole.Counts all) t x = rule5Of t x (all .0)
 
--- ---- at term j of an array
+-- ---- at term j of an array, of which the first m are the year's
 
 abbrev pub ownSumsAt : Quantity → List Sums → List Term → ℕ → Outcome
 ownSumsAt q u t j = ownSumsOf q (termIn t j) (sumsIn u j)
 
-abbrev pub otherTermsAt : Whole → List Term → ℕ → Outcome
-otherTermsAt all t j = otherTermsOf all (termIn t j) (totalsTo t 16)
+abbrev pub otherTermsAt : ℕ → Whole → List Term → ℕ → Outcome
+otherTermsAt m all t j = otherTermsOf all (termIn t j) (totalsTo t m)

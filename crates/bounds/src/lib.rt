@@ -33,7 +33,6 @@ pub struct Totals {
 // Rules 1 and 2. The weights are those of the year that the state holds, and `all` is their sum.
 pub fn rules_1_2(s: State, weight: &[u32], all: Credits) -> State
     requires { ⌜ Sound (yearIn (now weight) s) ⌝ }
-    requires { ⌜ s ≡ held (stepIn (now weight) s) ⌝ }
     requires { ⌜ all .0 ≡ allCredits (yearIn (now weight) s) ⌝ }
     ensures { λ r. ⌜ r ≡ held (inRow (passesOf 1 2) (stepIn (now (weight .entry)) s)) ⌝ }
 {
@@ -46,7 +45,6 @@ pub fn rules_1_2(s: State, weight: &[u32], all: Credits) -> State
 // Rules 4 and 5.
 pub fn rules_4_5(s: State, weight: &[u32]) -> State
     requires { ⌜ Sound (yearIn (now weight) s) ⌝ }
-    requires { ⌜ s ≡ held (stepIn (now weight) s) ⌝ }
     ensures { λ r. ⌜ r ≡ held (inRow (passesOf 4 5) (stepIn (now (weight .entry)) s)) ⌝ }
 {
     let sums = s.sums;

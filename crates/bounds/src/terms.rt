@@ -14,7 +14,7 @@ ghost use mathlib.Core.Path.{_≡_};
 ghost use Prim.Native.Nat.{ℕ, _-_, _≤_, _<_};
 ghost use lib.ListN.{length};
 ghost use Rattle.year.specs.Sound.{TermSound};
-ghost use Rattle.year.specs.SumsOf.{sumsIn};
+ghost use Rattle.year.specs.Sums.{sumsIn};
 ghost use Rattle.bounds.specs.AtTerm.{totalsTo, totalsWith, totalsAfter, rule1Of, rule2Of, rule4Of, rule5Of, ownSumsOf, otherTermsOf, ownSumsAt, otherTermsAt};
 ghost use Rattle.frame.specs.Bounds.{boundsOver, termIn};
 
@@ -31,10 +31,11 @@ fn with_term(x: Totals, t: Term) -> Totals
     }
 }
 
-// The sums of each bound over all sixteen entries.
-fn totals(term: [Term; Year::TERMS]) -> Totals
+// The sums of each bound over the first m terms.
+fn totals(term: [Term; Year::TERMS], m: usize) -> Totals
+    requires { ⌜ m ≤ 16 ⌝ }
     requires { ⌜ ((k : ℕ) → k < 16 → TermSound (termIn term k)) ⌝ }
-    ensures { λ r. ⌜ r ≡ totalsTo term 16 ⌝ }
+    ensures { λ r. ⌜ r ≡ totalsTo term m ⌝ }
 {
     let mut x = Totals {
         low: Credits(0),
@@ -42,7 +43,7 @@ fn totals(term: [Term; Year::TERMS]) -> Totals
         least: Courses(0),
         most: Courses(0),
     };
-    for k in 0..Year::TERMS {
+    for k in 0..m {
         x = with_term(x, term[k]);
     }
     x
@@ -150,11 +151,11 @@ fn changed(x: Totals, t: Term, v: Term) -> Totals
 pub fn over_other_terms(b: Bounds, all: Whole, m: usize) -> Bounds
     requires { ⌜ (m ≤ 16) × (length (b .term) ≡ 16) ⌝ }
     requires { ⌜ ((k : ℕ) → k < 16 → TermSound (termIn (b .term) k)) ⌝ }
-    ensures { λ r. ⌜ r ≡ boundsOver (otherTermsAt all) b m ⌝ }
+    ensures { λ r. ⌜ r ≡ boundsOver (otherTermsAt m all) b m ⌝ }
 {
     let mut z = b;
     let term = b.term;
-    let mut x = totals(term);
+    let mut x = totals(term, m);
     let mut j = 0;
     while (j < m) & (z.rule == 0) {
         let t = z.term[j];

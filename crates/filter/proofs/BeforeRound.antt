@@ -23,7 +23,7 @@ use Rattle.filter.specs.Filter.{filtered, atRest, roundsFrom}
 use Rattle.filter.specs.Halves.{firstHalf, secondHalf}
 use Rattle.filter.specs.declared.Answer.the-variants.{NoPlan}
 use Rattle.filter.specs.declared.Filtered.{Filtered}
-use Rattle.filter.proofs.StateAt.{StateAt, state-sound, state-self, state-step, state-year, state-credits, state-rule}
+use Rattle.filter.proofs.StateAt.{StateAt, state-sound, state-step, state-year, state-credits, state-rule}
 use Rattle.filter.proofs.RoundLaws.{halves, roundsLeft, round-no-plan, round-at-rest, round-alters, round-falls}
 
 -- after n rounds, each of which altered something: what is left to do from the year at hand gives what the whole filtering
@@ -97,9 +97,6 @@ module _ (y : Year) (sound : Sound y) where
       pub first-sound : Sound (yearIn (y .weight) r1)
       first-sound = state-sound y r1 (firstHalf z) at1
 
-      pub first-self : r1 ≡ held (stepIn (y .weight) r1)
-      first-self = state-self y r1 (firstHalf z) at1
-
       pub first-orders : (p : Orders) → p ≡ ordersIn (y .weight) (y .courses) → p ≡ ordersOf (yearIn (y .weight) r1)
       first-orders p q =
           q
@@ -131,9 +128,6 @@ module _ (y : Year) (sound : Sound y) where
 
         pub second-sound : Sound (yearIn (y .weight) r2)
         second-sound = state-sound y r2 (round z) at2
-
-        pub second-self : r2 ≡ held (stepIn (y .weight) r2)
-        second-self = state-self y r2 (round z) at2
 
         -- the year is at rest
         pub second-at-rest : r2 .rule ≡ 0 → r2 .altered ≡ false → (f : Filtered) → f ≡ filtered (atRest (yearIn (y .weight) r2) (n + 1)) (yearIn (y .weight) r2) → f ≡ roundsFrom 1025985 y y 0
@@ -168,7 +162,7 @@ module _ (y : Year) (sound : Sound y) where
             courses = r2 .courses;
             term = r2 .term;
             list = r2 .list;
-            sums = second-self i .sums;
+            sums = r2 .sums;
             altered = false;
             rule = d i;
           };

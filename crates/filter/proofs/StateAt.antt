@@ -10,7 +10,7 @@ use Rattle.rules.specs.Round.{inRow, passesOf}
 use Rattle.frame.specs.declared.State.{State}
 use Rattle.rules.specs.Narrower.{Narrower}
 use Rattle.rules.proofs.Narrows.{credits-same}
-use Rattle.frame.proofs.StateLaws.{year-held, step-held, sound-held, held-self}
+use Rattle.frame.proofs.StateLaws.{year-held, step-held, sound-held}
 use Rattle.rules.proofs.Passes.{row-narrower, lawful-part}
 
 -- state r holds step x of a round that began with year y
@@ -24,16 +24,13 @@ module _ (y : Year) (r : State) (x : Step) (s : StateAt y r x) where
   own = sym (s .narrower .weight-same)
 
   pub state-step : stepIn (y .weight) r ≡ x
-  state-step = step-held (y .weight) x (s .narrower .sound) own r (s .is)
+  state-step = step-held (y .weight) x own r (s .is)
 
   pub state-year : yearIn (y .weight) r ≡ x .year
-  state-year = year-held (y .weight) x (s .narrower .sound) own r (s .is)
+  state-year = year-held (y .weight) x own r (s .is)
 
   pub state-sound : Sound (yearIn (y .weight) r)
-  state-sound = sound-held (y .weight) x (s .narrower .sound) own r (s .is)
-
-  pub state-self : r ≡ held (stepIn (y .weight) r)
-  state-self = held-self (y .weight) x (s .narrower .sound) own r (s .is)
+  state-sound = sound-held (y .weight) x own r (s .is) (s .narrower .sound)
 
   pub state-credits : (a : ℕ) → a ≡ allCredits y → a ≡ allCredits (yearIn (y .weight) r)
   state-credits a e = e ∙ sym (credits-same y (x .year) (s .narrower .courses-same) (s .narrower .weight-same)) ∙ ap allCredits (sym state-year)

@@ -4,13 +4,15 @@
 use Prim.Native.Nat.{ℕ}
 use mathlib.Core.List.{[], _∷_}
 use mathlib.Core.Path.{_≡_, refl}
+use lib.ListN.{replicate}
 use Rattle.year.specs.Year.{termOf, courseOf}
 use Rattle.year.specs.Doors.{withTerm}
-use Rattle.year.specs.Examples.{yearOf, yearE}
+use Rattle.year.specs.Examples.{yearOf, yearE, offE}
+use Rattle.year.specs.Sums.{sumsOf, noSums}
 use Rattle.rules.specs.Examples.{atASize, atATermsSize, atHalf, aboveHalf, atItsOwnSize}
 use Rattle.year.specs.declared.Year.{Year}
 use Rattle.filter.specs.Filter.{filtered, filterOf}
-use Rattle.filter.specs.declared.Answer.the-variants.{Settled, Open, NoPlan}
+use Rattle.filter.specs.declared.Answer.the-variants.{Settled, Open, NoPlan, Unsound}
 use Rattle.filter.specs.Computing.{computing}
 
 -- ---- what a filtering gives
@@ -311,3 +313,17 @@ rule-10-over-high :
     FindsNone (yearOf (termOf 0 1 0 0 ∷ termOf 0 2 0 2 ∷ termOf 0 2 0 2 ∷ []) (courseOf 2 6 ∷ courseOf 1 3 ∷ courseOf 1 5 ∷ [])) 10 1
 unfolding computing
 rule-10-over-high = refl
+
+-- ---- the sums
+
+-- a year with a sum that disagrees is refused by 8 and comes back as it was given
+sums-refused : filterOf offE ≡ filtered Unsound offE
+unfolding computing
+sums-refused = refl
+
+-- and what a filtering leaves carries its sums: after rule 3 has fixed course 0 in term 1 and course 1 in term 0, two of one course each
+sums-follow :
+    filterOf (yearOf (termOf 0 2 0 1 ∷ termOf 0 1 0 1 ∷ []) (courseOf 1 3 ∷ courseOf 2 3 ∷ [])) .year .sums
+    ≡ sumsOf 2 2 1 0 ∷ sumsOf 1 1 1 0 ∷ replicate 14 noSums
+unfolding computing
+sums-follow = refl

@@ -19,12 +19,11 @@ ghost use Rattle.filter.specs.Filter.{filtered, atRest, roundsFrom};
 
 // A year about to go through a round, but for its weights.
 fn start(y: Year) -> State
-    requires { ⌜ Sound y ⌝ }
     ensures { λ r. ⌜ r ≡ held (live y) ⌝ }
 {
     let term = y.term;
     let list = y.list;
-    let sums = totals::sums_of(y);
+    let sums = y.sums;
     State {
         terms: y.terms,
         courses: y.courses,
@@ -55,7 +54,6 @@ fn first_half(s: State, weight: &[u32], all: Credits) -> State
 // Rules 6 to 11 in order, up to one that finds no plan.
 fn second_half(s: State, weight: &[u32], o: Orders) -> State
     requires { ⌜ Sound (yearIn (now weight) s) ⌝ }
-    requires { ⌜ s ≡ held (stepIn (now weight) s) ⌝ }
     requires { ⌜ o ≡ ordersOf (yearIn (now weight) s) ⌝ }
     ensures { λ r. ⌜ r ≡ held (secondHalf (stepIn (now (weight .entry)) s)) ⌝ }
 {
@@ -101,12 +99,14 @@ fn year_in(s: State, y: Year) -> Year
     let term = s.term;
     let weight = y.weight;
     let list = s.list;
+    let sums = s.sums;
     Year {
         terms: s.terms,
         courses: s.courses,
         term: term,
         weight: weight,
         list: list,
+        sums: sums,
     }
 }
 

@@ -7,13 +7,10 @@ use native.Mathlib.Nat.{le-refl}
 use native.Mathlib.Decide.{decLt, ℕ-discrete}
 use lib.ListN.{length, set}
 use lib.Seq.{getD-set-same, getD-set-other}
-use Rattle.theory.specs.Tab.{tab}
 use Rattle.year.specs.Year.{zeroTerm, termAt}
-use Rattle.year.specs.Sums.{fixedCount, openCount}
-use Rattle.year.specs.SumsOf.{sumsAt, sumsIn}
+use Rattle.year.specs.Sums.{fixedCount, openCount, sumsAt, sumsIn}
 use Rattle.year.specs.Sound.{Sound, TermSound}
 use Rattle.year.specs.declared.Term.{Term}
-use Rattle.year.specs.declared.Sums.{Sums}
 use Rattle.year.specs.declared.Year.{Year}
 use Rattle.year.proofs.SumLaws.{counts-le, sums-read}
 use Rattle.rules.specs.Step.{Step, overTerms}
@@ -23,7 +20,7 @@ use Rattle.frame.specs.State.{held}
 use Rattle.frame.specs.Bounds.{boundsOf, withBounds, boundsOver, termIn}
 use Rattle.frame.specs.declared.State.{State}
 use Rattle.frame.specs.declared.Bounds.{Bounds}
-use Rattle.frame.proofs.BoundsOnly.{Tightens, BoundsOnly, only-self, only-then, only-over, sums-same}
+use Rattle.frame.proofs.BoundsOnly.{Tightens, BoundsOnly, only-self, only-then, only-over}
 use Rattle.frame.proofs.BoundsOver.{bounds-over}
 
 -- every entry of a sound year's bounds is within the sizes
@@ -85,12 +82,12 @@ module _ (p : Step) (b : Bounds) (q : Step) (g : BoundsAt p b q) where
       let m = sym (k .narrower .terms-same) in
       let n = sym (k .narrower .courses-same) in
       let l = sym (k .list-same) in
-      let u = sym (sums-same (p .year) (q .year) k) in
+      let u = sym (k .sums-same) in
       ap₂ withBounds e (g .bounds-are)
       ∙ (λ i. record { terms = m i; courses = n i; term = q .year .term; list = l i; sums = u i; altered = q .altered; rule = q .rule })
 
 -- ---- what the rules ask of the sums
 
-pub sums-fit : (y : Year) (u : List Sums) → Sound y → u ≡ tab 16 (sumsAt y) → (k : ℕ) → k < 16 → (sumsIn u k .placed .0 ≤ 64) × (sumsIn u k .free .0 ≤ 64)
+pub sums-fit : (y : Year) → Sound y → (k : ℕ) → k < 16 → (sumsIn (y .sums) k .placed .0 ≤ 64) × (sumsIn (y .sums) k .free .0 ≤ 64)
 unfolding sumsAt fixedCount openCount
-sums-fit y u s e k h = rw (sums-read y u e k h) (omega (arith, s, counts-le y k), omega (arith, s, counts-le y k))
+sums-fit y s k h = rw (sums-read y (y .sums) (s .sums-kept) k h) (omega (arith, s, counts-le y k), omega (arith, s, counts-le y k))

@@ -2,10 +2,8 @@
 use Prim.Native.Nat.{ℕ, _≤_, _<_}
 use mathlib.Core.Path.{_≡_, refl, _∙_}
 use native.Mathlib.Omega.{arith}
-use Rattle.theory.specs.Tab.{tab}
 use Rattle.theory.proofs.FoldLaws.{fold-keeps}
 use Rattle.year.specs.Sums.{allCredits}
-use Rattle.year.specs.SumsOf.{sumsTo, sumsAt}
 use Rattle.year.specs.Sound.{Sound}
 use Rattle.year.specs.declared.Year.{Year}
 use Rattle.rules.specs.Step.{Step, goes, then, overTo}
@@ -23,18 +21,20 @@ Tightens rule = AtTerms Narrows (bounded rule)
 pub record BoundsOnly (y z : Year) : Type 0 where
   pub narrower : Narrower y z
   pub list-same : z .list ≡ y .list
+  pub sums-same : z .sums ≡ y .sums
 
 pub only-self : (y : Year) → Sound y → BoundsOnly y y
-only-self y a = record { narrower = narrower-self y a; list-same = refl }
+only-self y a = record { narrower = narrower-self y a; list-same = refl; sums-same = refl }
 
 pub only-then : (x y z : Year) → BoundsOnly x y → BoundsOnly y z → BoundsOnly x z
-only-then x y z a b = record { narrower = narrower-then x y z (a .narrower) (b .narrower); list-same = b .list-same ∙ a .list-same }
+only-then x y z a b = record { narrower = narrower-then x y z (a .narrower) (b .narrower); list-same = b .list-same ∙ a .list-same; sums-same = b .sums-same ∙ a .sums-same }
 
 -- one term more
 pub only-next : (rule : Year → ℕ → Outcome) → Tightens rule → (y z : Year) (k : ℕ) → BoundsOnly y z → k < z .terms → BoundsOnly y (bounded rule z k .year)
 only-next rule law y z k b h = record {
   narrower = narrower-then y z (bounded rule z k .year) (b .narrower) (law z k (b .narrower .sound) h .year);
   list-same = b .list-same;
+  sums-same = b .sums-same;
 }
 
 -- over the first m terms
@@ -48,9 +48,5 @@ only-over rule law s a m h =
 -- ---- what stays
 
 module _ (y z : Year) (k : BoundsOnly y z) where
-  pub sums-same : tab 16 (sumsAt z) ≡ tab 16 (sumsAt y)
-  unfolding sumsAt
-  sums-same = λ i. tab 16 (sumsTo (k .narrower .weight-same i) (k .list-same i) (k .narrower .courses-same i))
-
   pub credits-kept : allCredits z ≡ allCredits y
   credits-kept = credits-same y z (k .narrower .courses-same) (k .narrower .weight-same)

@@ -3,16 +3,19 @@ use Prim.Native.Nat.{ℕ, suc, _*_, _/_, _%_, _≤_, _<_}
 use mathlib.Core.Bool.{false, not}
 use mathlib.Core.List.{List}
 use mathlib.Core.Logic.{⊎-elim}
-use mathlib.Core.Path.{_≡_, refl, sym, ap, _∙_}
+use mathlib.Core.Path.{_≡_, refl, sym, ap, subst, _∙_}
 use native.Mathlib.Omega.{arith}
 use native.Mathlib.Decide.{ℕ-discrete}
 use lib.Dec.{eqb, ltb}
 use lib.ListN.{length}
 use borrow.Author.Tests.{ltb-false, eqb-true, not-false}
+use Rattle.theory.specs.Tab.{tab}
 use Rattle.theory.proofs.TestLaws.{or-false}
 use Rattle.year.specs.Year.{termAt, courseAt}
-use Rattle.year.specs.Doors.{emptyYear}
+use Rattle.year.specs.Sums.{fixedCredits, openCredits, fixedCount, openCount, sumsAt}
+use Rattle.year.specs.Doors.{emptyYear, withSums}
 use Rattle.year.specs.Sound.{Sound}
+use Rattle.year.specs.Computing.{computing as computingYear}
 use Rattle.year.specs.declared.Term.{Term}
 use Rattle.year.specs.declared.Course.{Course}
 use Rattle.year.specs.declared.Year.{Year}
@@ -21,9 +24,10 @@ use Rattle.records.specs.declared.Fault.{Fault}
 use Rattle.records.specs.declared.Reading.{Reading}
 use Rattle.records.specs.declared.Reading.the-variants as reading
 use Rattle.records.specs.declared.Received.{Received}
-use Rattle.records.specs.Reading.{OfTerm, OfCourse, blankYear, addTerm, addCourse, done, gathered, badLength}
+use Rattle.records.specs.Reading.{OfTerm, OfCourse, blankYear, addTerm, addCourse, done, gathered, badLength, summed}
 use Rattle.records.proofs.EntryLaws.{TermHeld, TermRead, of-term, of-course, term-no-course, course-no-term}
-use Rattle.records.proofs.GatherLaws.{gathered-keeps, listed-done, listed-refused, Begun, begun-blank, begun-term, begun-course, begun-sound, term-added, term-before, course-added, course-before}
+use Rattle.year.proofs.SoundLaws.{with-sums-same}
+use Rattle.records.proofs.GatherLaws.{gathered-keeps, listed-done, listed-refused, summed-refused, Begun, begun-blank, begun-term, begun-course, begun-sound, term-added, term-before, course-added, course-before}
 use Rattle.records.proofs.ListLaws.{length-good}
 use Rattle.hours.specs.declared.Joining.the-variants.{Done, InTerms}
 use Rattle.hours.specs.declared.Joined.{Joined}
@@ -38,16 +42,20 @@ use Rattle.hours.proofs.EntryLaws.{alone-read, HoursHeld, HoursRead, ho
 pub record Terms (s : List ℕ) (k : ℕ) (y : Year) : Type 0 where
   pub begun : Begun y
   pub no-course : y .courses ≡ 0
+  pub sums-kept : y .sums ≡ tab 16 (sumsAt y)
   pub count : y .terms ≡ k
   pub each : (j : ℕ) → j < k → (letterAt s (j * 16) ≡ 84) × TermHeld s (j * 16) (termAt y j)
 
 terms-start : (s : List ℕ) → Terms s 0 blankYear
-terms-start s = record { begun = begun-blank; no-course = refl; count = refl; each = λ j h. absurd (omega arith) }
+unfolding computingYear
+terms-start s = record { begun = begun-blank; no-course = refl; sums-kept = refl; count = refl; each = λ j h. absurd (omega arith) }
 
 terms-term : (s : List ℕ) (k : ℕ) (y : Year) (t : Term) → Terms s k y → termEntry s k y ≡ OfTerm t → Terms s (suc k) (addTerm y t)
+unfolding sumsAt fixedCredits openCredits fixedCount openCount
 terms-term s k y t p e = record {
   begun = begun-term y t (p .begun) (r .1 .room) (rw (sym (r .1 .held .holds)) (r .1 .held .sound)) (p .no-course);
   no-course = p .no-course;
+  sums-kept = p .sums-kept;
   count = omega (arith, p .count);
   each = λ j h. at j h (ℕ-discrete j k);
 }
@@ -125,13 +133,20 @@ terms-done s e =
     let g = length-good (length s) (d .0) in
     (terms-so-far s (length s / 16) _ (d .1), g .0, g .1)
 
--- an hours list that is done, behind terms that are
+-- its year is sound, and has its sums
+pub terms-sound : (s : List ℕ) → termList s .answer ≡ reading.Done → Sound (termList s .year)
+terms-sound s e =
+    let r = terms-done s e in
+    let y = termList s .year in
+    subst Sound (with-sums-same y (r .0 .sums-kept)) (begun-sound y (r .0 .begun) (omega (arith, r .1, r .0 .count)))
+
+-- an hours list that is done, behind terms that are: the year of its records is handed back with its sums
 pub hours-done : (y : Year) (s : List ℕ) → Begun y → y .courses ≡ 0 → hoursList y s .answer ≡ reading.Done
-    → Hours y s (length s / 16) (hoursList y s .year) × SameTerms y s (length s / 16) (hoursList y s .year) × (length s / 16 * 16 ≡ length s)
+    → (z : Year) × Hours y s (length s / 16) z × SameTerms y s (length s / 16) z × (length s / 16 * 16 ≡ length s) × (withSums z ≡ hoursList y s .year)
 unfolding hoursList
 hours-done y s b none e =
     let d = listed-done (badHours (length s)) (hoursEntry s) y (length s / 16) e in
-    (hours-so-far y s b none (length s / 16) _ (d .1), terms-same y s (length s / 16) _ (d .1), hours-good (length s) (d .0) .0)
+    (_, hours-so-far y s b none (length s / 16) _ (d .1), terms-same y s (length s / 16) _ (d .1), hours-good (length s) (d .0) .0, refl)
 
 -- refused, either hands back the empty year, and the place is one of its records or 0
 pub terms-refused : (s : List ℕ) (f : Fault) (k : ℕ) → termList s .answer ≡ reading.Refused f k → (termList s .year ≡ emptyYear) × (k ≤ 80)
@@ -144,7 +159,7 @@ pub hours-refused : (y : Year) (s : List ℕ) (f : Fault) (k : ℕ) → hoursLis
 unfolding hoursList
 hours-refused y s f k e =
     let r = listed-refused (badHours (length s)) (hoursEntry s) y (length s / 16) f k e in
-    (ap (λ (r : Received). r .year) (r .0), ⊎-elim (λ q. omega (arith, q .2)) (λ q. omega (arith, q .1, hours-good (length s) (q .0) .1)) (r .1))
+    (ap (λ (r : Received). r .year) (ap summed (r .0) ∙ summed-refused f k), ⊎-elim (λ q. omega (arith, q .2)) (λ q. omega (arith, q .1, hours-good (length s) (q .0) .1)) (r .1))
 
 -- ---- both
 
@@ -158,9 +173,11 @@ module _ (t h : List ℕ) (front : Received) (is : front ≡ termList t) where
   unfolding joinOf
   join-in-terms f k e = rw (sym is, e) refl
 
-  -- the terms leave room for the bits of a list
-  pub terms-few : front .answer ≡ reading.Done → front .year .terms ≤ 16
-  terms-few e = rw is (terms-done t (sym (ap (λ (r : Received). r .answer) is) ∙ e) .0 .begun .terms-most)
+  -- what the hours stand behind is sound, with no course
+  pub front-sound : front .answer ≡ reading.Done → Sound (front .year) × (front .year .courses ≡ 0)
+  front-sound e =
+      let d : termList t .answer ≡ reading.Done = sym (ap (λ (r : Received). r .answer) is) ∙ e in
+      rw is (terms-sound t d, terms-done t d .0 .no-course)
 
 -- how a joining ends: refused in the terms' list, or as the hours list behind its year
 module _ (t h : List ℕ) where
@@ -197,19 +214,20 @@ joint t h = go (joinOf t h) (ends t h)
     go j (in-terms f k p) e = let x : _≡_ {A = ℕ} 0 1 = cc in absurd (omega arith)
     go j (behind p) e =
         let y = termList t .year in
-        let z = hoursList y h .year in
         let r = terms-done t p in
         let q = hours-done y h (r .0 .begun) (r .0 .no-course) (listed (hoursList y h .answer) e) in
-        let many : z .terms ≡ length t / 16 = q .1 .0 ∙ r .0 .count in
-        record {
+        let z = q .0 in
+        let many : z .terms ≡ length t / 16 = q .2 .0 ∙ r .0 .count in
+        subst (Joint t h) (q .4)
+        (record {
           front-done = p;
-          front-same = q .1;
-          sound = begun-sound z (q .0 .begun) (omega (arith, r .1, many));
+          front-same = q .2;
+          sound = begun-sound z (q .1 .begun) (omega (arith, r .1, many));
           term-bytes = ap (λ (n : ℕ). n * 16) many ∙ r .2;
-          course-bytes = ap (λ (n : ℕ). n * 16) (q .0 .count) ∙ q .2;
-          each-term = λ j l. rw (q .1 .1) (r .0 .each j (omega (arith, many)) .1);
-          each-course = λ i l. rw (q .1 .0) (q .0 .each i (omega (arith, q .0 .count)));
-        }
+          course-bytes = ap (λ (n : ℕ). n * 16) (q .1 .count) ∙ q .3;
+          each-term = λ j l. rw (q .2 .1) (r .0 .each j (omega (arith, many)) .1);
+          each-course = λ i l. rw (q .2 .0) (q .1 .each i (omega (arith, q .1 .count)));
+        })
 
 -- refused, the year is the empty one; the place is one of a record, or 0
 pub unjoined : (t h : List ℕ) → (joinOf t h .answer ≡ Done → ⊥) → joinOf t h .year ≡ emptyYear

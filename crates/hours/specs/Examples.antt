@@ -5,8 +5,8 @@ use mathlib.Core.List.{List, [], _∷_, _++_}
 use mathlib.Core.Path.{_≡_, refl}
 use lib.ListN.{take, replicate, set}
 use Rattle.year.specs.Doors.{emptyYear}
-use Rattle.year.specs.Year.{weight}
-use Rattle.year.specs.Examples.{yearE}
+use Rattle.year.specs.Year.{termOf, weight}
+use Rattle.year.specs.Examples.{yearOf, yearE}
 use Rattle.records.specs.Writing.{joined}
 use Rattle.records.specs.Examples.{padded, firstTerm, plainTerm, plainCourse, bytesE}
 use Rattle.hours.specs.declared.Edition.the-variants.{First, Second}
@@ -61,9 +61,15 @@ termsE = take 32 bytesE
 abbrev pub hoursE : List ℕ
 hoursE = hoursOf 0 1 2 5 3 ++ hoursOf 1 2 1 3 3 ++ hoursOf 2 1 0 4 3
 
+-- what is joined carries its sums, as year E does
 pub year-e-joined : joinOf termsE hoursE ≡ record { answer = Done; year = yearE }
 unfolding computing
 year-e-joined = refl
+
+-- and so it does with no hours: the sums of no course
+pub terms-e-joined : joinOf termsE [] ≡ record { answer = Done; year = yearOf (termOf 0 4 0 3 ∷ termOf 0 6 0 3 ∷ []) [] }
+unfolding computing
+terms-e-joined = refl
 
 -- ---- weights
 

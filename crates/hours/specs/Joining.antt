@@ -6,7 +6,7 @@ use lib.Dec.{eqb, ltb}
 use lib.ListN.{length}
 use Rattle.theory.specs.Choice.{choose}
 use Rattle.year.specs.declared.Year.{Year}
-use Rattle.records.specs.Reading.{Record, ofTerm, ofCourse, blankYear, refused, gathered, badLength}
+use Rattle.records.specs.Reading.{Record, ofTerm, ofCourse, blankYear, refused, gathered, badLength, summed}
 use Rattle.records.specs.declared.Fault.the-variants as fault
 use Rattle.records.specs.declared.Reading.{Reading}
 use Rattle.records.specs.declared.Reading.the-variants as reading
@@ -22,6 +22,7 @@ use Rattle.hours.specs.Entries.{hoursRecord, termAlone}
 abbrev pub termEntry : List ℕ → ℕ → Year → Record
 termEntry s k y = ofTerm (termAlone s (k * 16) (y .terms))
 
+-- its year has no course, so that the sums it has from the start, 0, are right
 unfoldable pub termList : List ℕ → Received
 termList s = choose (badLength (length s)) (refused fault.Length 0) (gathered (termEntry s) blankYear (length s / 16))
 
@@ -34,9 +35,9 @@ hoursEntry s k y = ofCourse (hoursRecord s (k * 16) (y .courses) (y .terms))
 abbrev pub badHours : ℕ → Bool
 badHours n = ltb 1024 n || not (eqb (n % 16) 0)
 
--- the list behind the year of the terms
+-- the list behind the year of the terms, with the sums
 unfoldable pub hoursList : Year → List ℕ → Received
-hoursList y s = choose (badHours (length s)) (refused fault.Length 0) (gathered (hoursEntry s) y (length s / 16))
+hoursList y s = summed (choose (badHours (length s)) (refused fault.Length 0) (gathered (hoursEntry s) y (length s / 16)))
 
 -- ---- both
 

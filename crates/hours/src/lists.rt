@@ -10,8 +10,9 @@ use records::RECORD;
 use records::Reading;
 use records::Received;
 use year::Year;
+use year::by_hand;
 ghost use mathlib.Core.Path.{_≡_};
-ghost use Prim.Native.Nat.{_≤_};
+ghost use Rattle.year.specs.Sound.{Sound};
 ghost use Rattle.hours.specs.Joining.{termList, badHours, hoursList, inHours, withHours};
 
 // The terms of a list that may hold nothing else.
@@ -47,9 +48,10 @@ fn bad_hours(n: usize) -> bool
     (LONGEST < n) | (n % RECORD != 0)
 }
 
-// The year with a course more for each record of an hours list.
+// A year of terms alone, with a course more for each record of an hours list.
 fn read_hours(y: Year, s: &[u8]) -> Received
-    requires { ⌜ y .terms ≤ 16 ⌝ }
+    requires { ⌜ Sound y ⌝ }
+    requires { ⌜ y .courses ≡ 0 ⌝ }
     ensures { λ r. ⌜ r ≡ hoursList y (now (s .entry)) ⌝ }
 {
     let n = s.len();
@@ -70,9 +72,10 @@ fn read_hours(y: Year, s: &[u8]) -> Received
             }
         }
     }
+    let whole = by_hand::with_sums(z);
     Received {
         answer: Reading::Done,
-        year: z,
+        year: whole,
     }
 }
 
@@ -87,7 +90,8 @@ fn in_hours(a: Reading) -> Joining
 }
 
 pub fn with_hours(y: Year, s: &[u8]) -> Joined
-    requires { ⌜ y .terms ≤ 16 ⌝ }
+    requires { ⌜ Sound y ⌝ }
+    requires { ⌜ y .courses ≡ 0 ⌝ }
     ensures { λ r. ⌜ r ≡ withHours y (now (s .entry)) ⌝ }
 {
     let r = read_hours(y, s);

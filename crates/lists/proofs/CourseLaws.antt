@@ -1,20 +1,26 @@
--- The courses of a term, one after the other: what the steps leave alone, and what the code carries along.
+-- The courses of a term, one after the other: what the steps leave alone, and what the code makes of a course.
 use Prim.Native.Nat.{ℕ, zero, suc, _+_, _-_, _^_, _≤_, _<_}
-use mathlib.Core.Bool.{Bool, true, false, _||_, or-true, or-false}
+use mathlib.Core.Bool.{Bool, true, false, not, _||_, or-true, or-false}
+use mathlib.Core.List.{List}
 use mathlib.Core.Path.{_≡_, refl, sym, ap, _∙_, subst}
 use native.Mathlib.Omega.{arith}
 use lib.ListN.{set}
 use Rattle.theory.specs.Fold.{fold}
+use Rattle.theory.specs.Tab.{tab}
 use Rattle.theory.proofs.BitLaws.{has-le}
-use Rattle.year.specs.Year.{courseOf, termAt, courseAt, weight, list, isOpen}
-use Rattle.year.specs.Doors.{withList, placed, struck}
-use Rattle.year.specs.Sums.{fixedCredits, possibleCredits}
+use Rattle.theory.proofs.TestLaws.{and-true}
+use Rattle.year.specs.Year.{courseOf, courseIn, termAt, courseAt, weight, list, lists, isFixed, isOpen}
+use Rattle.year.specs.Doors.{withList}
+use Rattle.year.specs.Sums.{fixedCredits, possibleCredits, sumsIn, sumsAt}
+use Rattle.year.specs.SumsOf.{partOf, Within, changedAt}
 use Rattle.year.specs.Sound.{Sound}
 use Rattle.year.specs.declared.Course.{Course}
+use Rattle.year.specs.declared.Sums.{Sums}
 use Rattle.year.specs.declared.Term.{Term}
 use Rattle.year.specs.declared.Year.{Year}
+use Rattle.year.proofs.ChangeLaws.{change-asks, change-gives}
 use Rattle.year.proofs.DoorLaws.{list-other}
-use Rattle.year.proofs.SumLaws.{possible-le, all-credits-le}
+use Rattle.year.proofs.SumLaws.{possible-le, all-credits-le, sums-read}
 use Rattle.rules.specs.Step.{goes, then, step, live, judged, next, overTo, Step, joined}
 use Rattle.theory.proofs.FoldLaws.{fold-more}
 use Rattle.rules.specs.Lists.{verdict3, rule3Course, verdict10, rule10Course}
@@ -22,16 +28,11 @@ use Rattle.rules.specs.declared.Verdict.{Verdict}
 use Rattle.rules.specs.declared.Verdict.the-variants.{Stays, Struck, Fixed}
 use Rattle.rules.proofs.Narrows.{Narrows, narrows-rest, narrows-over, Lawful}
 use Rattle.rules.proofs.Steps.{lawful-3, lawful-10}
-use Rattle.lists.specs.TermVerdict.{carried, carriedOf, courseVerdict, courseJudged}
+use Rattle.frame.specs.State.{held, yearIn, stepIn}
+use Rattle.frame.specs.declared.State.{State}
+use Rattle.lists.specs.TermVerdict.{courseVerdict, listAfter, courseJudged}
 use Rattle.lists.specs.declared.TermVerdict.{TermVerdict}
 use Rattle.lists.specs.declared.TermVerdict.the-variants.{Nothing, ByCredits, ByCounts, NoPlan}
-use Rattle.lists.specs.declared.Carried.{Carried}
-use Rattle.lists.proofs.SumsAfter.{is-listed as lists-it, weight-le, struck-fixed, struck-possible, placed-fixed, placed-possible}
-
--- ---- a year's lists with its p and P
-
-pub carried-is : (k : Carried) (y : Year) (a : Bool) (j : ℕ) → k .list ≡ y .list → k .fixed .0 ≡ fixedCredits y j → k .possible .0 ≡ possibleCredits y j → k .altered ≡ a → k ≡ carried y a j
-carried-is k y a j p q r t = λ n. record { list = p n; fixed = record { 0 = q n }; possible = record { 0 = r n }; altered = t n }
 
 -- with one course more, p stays within its size
 pub small : (y : Year) (i j : ℕ) → Sound y → i < y .courses → fixedCredits y j + weight y i ≤ 65000
@@ -45,6 +46,12 @@ verdictAt w j y i = courseVerdict w (courseAt y i) (termAt y j) (fixedCredits y 
 judged-turn : (w : TermVerdict) (j : ℕ) (s : Step) (i : ℕ) (v : Verdict) → s .rule ≡ 0 → verdictAt w j (s .year) i ≡ v → next (courseJudged w j) s i ≡ joined s (judged (s .year) i j v)
 unfolding courseJudged
 judged-turn w j s i v r e = rw (r, e)
+
+-- a verdict other than to stay gives the course another list
+judged-alters : (y : Year) (i j : ℕ) (v : Verdict) → (v ≡ Stays → ⊥) → judged y i j v ≡ step (withList y i (listAfter v (list y i) j)) true 0
+judged-alters y i j Stays d = absurd (d refl)
+judged-alters y i j Struck d = refl
+judged-alters y i j Fixed d = refl
 
 -- only an open course has a verdict
 verdict-stays : (w : TermVerdict) (c : Course) (t : Term) (p P j : ℕ) → isOpen c j ≡ false → courseVerdict w c t p P j ≡ Stays
@@ -97,87 +104,107 @@ onward w j y (suc n) =
     let o = onward w j y n in
     subst (Onward y (suc n)) (sym (judged-turn w j s n _ (o .goes-on) refl)) (onward-judged y n j s (verdictAt w j (s .year) n) o)
 
--- ---- a judged-turn of the code's loop
+-- ---- a turn of the code's loop, in state s with the weights ws
 
--- what the code carries after n courses
-abbrev pub carriedTo : TermVerdict → Year → ℕ → ℕ → Carried
-carriedTo w y j n = carriedOf (overTo (courseJudged w j) (live y) n) j
+-- the state after n courses of term j
+abbrev pub stateTo : TermVerdict → List ℕ → State → ℕ → ℕ → State
+stateTo w ws s j n = held (joined (stepIn ws s) (overTo (courseJudged w j) (live (yearIn ws s)) n))
 
--- c is course i, k what is carried when it is come to, and p the list of term j alone
-pub record Turn (w : TermVerdict) (y : Year) (j i : ℕ) (k : Carried) (c : Course) : Type 0 where
-  pub p-small : k .fixed .0 + c .weight .0 ≤ 65000
-  pub stays : courseVerdict w c (termAt y j) (k .fixed .0) (k .possible .0) j ≡ Stays → k ≡ carriedTo w y j (i + 1)
-  pub is-listed : courseVerdict w c (termAt y j) (k .fixed .0) (k .possible .0) j ≡ Struck → 2 ^ j ≤ c .list
-  pub is-possible : courseVerdict w c (termAt y j) (k .fixed .0) (k .possible .0) j ≡ Struck → c .weight .0 ≤ k .possible .0
-  pub strikes : courseVerdict w c (termAt y j) (k .fixed .0) (k .possible .0) j ≡ Struck → (p : ℕ) → p ≡ 2 ^ j
-      → record { list = set (k .list) i (c .list - p); fixed = k .fixed; possible = record { 0 = k .possible .0 - c .weight .0 }; altered = true } ≡ carriedTo w y j (i + 1)
-  pub fixes : courseVerdict w c (termAt y j) (k .fixed .0) (k .possible .0) j ≡ Fixed → (p : ℕ) → p ≡ 2 ^ j
-      → record { list = set (k .list) i p; fixed = record { 0 = k .fixed .0 + c .weight .0 }; possible = k .possible; altered = true } ≡ carriedTo w y j (i + 1)
+-- the verdict on course c, from the sums of state z
+abbrev pub verdictOf : TermVerdict → List ℕ → State → ℕ → State → Course → Verdict
+verdictOf w ws s j z c = courseVerdict w c (termAt (yearIn ws s) j) (sumsIn (z .sums) j .fixed .0) (sumsIn (z .sums) j .possible .0) j
 
-module _ (w : TermVerdict) (y : Year) (j i : ℕ) (k : Carried) (c : Course) (sound : Sound y) (j-in : j < y .terms) (i-in : i < y .courses) (inv : k ≡ carriedTo w y j i)
-    (is : c ≡ courseAt y i) where
-  abbrev s : Step
-  s = overTo (courseJudged w j) (live y) i
+-- z is the state when course i, which is c, is come to
+pub record Turn (w : TermVerdict) (ws : List ℕ) (s : State) (j i : ℕ) (z : State) (c : Course) : Type 0 where
+  pub p-small : sumsIn (z .sums) j .fixed .0 + c .weight .0 ≤ 65000
+  pub is-listed : verdictOf w ws s j z c ≡ Struck → 2 ^ j ≤ c .list
+  pub stays : verdictOf w ws s j z c ≡ Stays → z ≡ stateTo w ws s j (i + 1)
+  pub asks : (c .weight .0 ≤ 1000) × ((k : ℕ) → k < 16 → Within (sumsIn (z .sums) k) (partOf c k))
+  pub alters : (verdictOf w ws s j z c ≡ Stays → ⊥) → (x : ℕ) → x ≡ listAfter (verdictOf w ws s j z c) (c .list) j → (u : List Sums) → u ≡ tab 16 (changedAt (z .sums) c x)
+      → record { terms = z .terms; courses = z .courses; term = z .term; list = set (z .list) i x; sums = u; altered = true; rule = z .rule } ≡ stateTo w ws s j (i + 1)
+
+module _ (w : TermVerdict) (ws : List ℕ) (s : State) (j i : ℕ) (z : State) (c : Course) (sound : Sound (yearIn ws s)) (alive : s .rule ≡ 0) (j-in : j < s .terms) (i-in : i < s .courses)
+    (inv : z ≡ stateTo w ws s j i) (is : c ≡ courseIn ws (s .list) i) where
+  abbrev y : Year
+  y = yearIn ws s
+
+  abbrev t : Step
+  t = overTo (courseJudged w j) (live y) i
 
   abbrev v : Verdict
-  v = courseVerdict w c (termAt y j) (k .fixed .0) (k .possible .0) j
+  v = verdictOf w ws s j z c
 
-  o : Onward y i s
+  o : Onward y i t
   o = onward w j y i
 
-  narrows : Narrows y s
+  narrows : Narrows y t
   narrows = narrows-over (courseJudged w j) (y .courses) y (live y) (lawful w (y .terms) (y .courses) j j-in) (narrows-rest y 0 sound) i (omega arith)
 
-  inside : i < s .year .courses
+  sound-now : Sound (t .year)
+  sound-now = narrows .year .sound
+
+  inside : i < t .year .courses
   inside = omega (arith, narrows .year .courses-same)
 
   -- the course was not altered yet
-  course : c ≡ courseAt (s .year) i
+  course : c ≡ courseAt (t .year) i
   course = is ∙ sym (o .course-same i (omega arith))
 
-  list-is : k .list ≡ s .year .list
-  list-is = ap (λ (z : Carried). z .list) inv
+  sums-is : z .sums ≡ t .year .sums
+  sums-is = ap (λ (q : State). q .sums) inv
 
-  fixed-is : k .fixed .0 ≡ fixedCredits (s .year) j
-  fixed-is = ap (λ (z : Carried). z .fixed .0) inv
+  sums-now : sumsIn (z .sums) j ≡ sumsAt (t .year) j
+  sums-now = ap (λ u. sumsIn u j) sums-is ∙ sums-read (t .year) (t .year .sums) (sound-now .sums-kept) j (omega (arith, sound))
 
-  possible-is : k .possible .0 ≡ possibleCredits (s .year) j
-  possible-is = ap (λ (z : Carried). z .possible .0) inv
+  fixed-is : sumsIn (z .sums) j .fixed .0 ≡ fixedCredits (t .year) j
+  unfolding sumsAt
+  fixed-is = ap (λ (u : Sums). u .fixed .0) sums-now
 
-  -- the verdict by the numbers at hand is that by the sums read anew
-  same : v ≡ verdictAt w j (s .year) i
+  possible-is : sumsIn (z .sums) j .possible .0 ≡ possibleCredits (t .year) j
+  unfolding sumsAt
+  possible-is = ap (λ (u : Sums). u .possible .0) sums-now
+
+  -- the verdict by the sums at hand is that by the sums read anew
+  same : v ≡ verdictAt w j (t .year) i
   same = rw (fixed-is, possible-is, course, o .term-same)
 
-  after : (u : Verdict) → v ≡ u → carriedOf (joined s (judged (s .year) i j u)) j ≡ carriedTo w y j (i + 1)
-  after u e = ap (λ t. carriedOf t j) (sym (fold-more goes (then (courseJudged w j)) (live y) i ∙ judged-turn w j s i u (o .goes-on) (sym same ∙ e)))
+  after : (u : Verdict) → v ≡ u → held (joined (stepIn ws s) (joined t (judged (t .year) i j u))) ≡ stateTo w ws s j (i + 1)
+  after u e = ap (λ x. held (joined (stepIn ws s) x)) (sym (fold-more goes (then (courseJudged w j)) (live y) i ∙ judged-turn w j t i u (o .goes-on) (sym same ∙ e)))
 
-  is-open : (v ≡ Stays → ⊥) → isOpen (courseAt (s .year) i) j ≡ true
-  is-open d = rw course at (verdict-open w c (termAt y j) (k .fixed .0) (k .possible .0) j d)
+  is-open : (v ≡ Stays → ⊥) → isOpen (courseAt (t .year) i) j ≡ true
+  is-open d = rw course at (verdict-open w c (termAt y j) (sumsIn (z .sums) j .fixed .0) (sumsIn (z .sums) j .possible .0) j d)
 
-  struck-open : v ≡ Struck → isOpen (courseAt (s .year) i) j ≡ true
-  struck-open e = is-open (λ q. let z : _≡_ {A = ℕ} 0 1 = cc in omega arith)
+  struck-lists : v ≡ Struck → lists (courseAt (t .year) i) j ≡ true
+  struck-lists e =
+      let listing : isOpen (courseAt (t .year) i) j ≡ true = is-open (λ q. let x : _≡_ {A = ℕ} 0 1 = cc in omega arith) in
+      and-true (lists (courseAt (t .year) i) j) (not (isFixed (courseAt (t .year) i) j)) listing .0
 
-  fixed-open : v ≡ Fixed → isOpen (courseAt (s .year) i) j ≡ true
-  fixed-open e = is-open (λ q. let z : _≡_ {A = ℕ} 0 1 = cc in omega arith)
-
-  pub turn-at : Turn w y j i k c
+  pub turn-at : Turn w ws s j i z c
   turn-at = record {
-    p-small = rw (course, fixed-is) (small (s .year) i j (narrows .year .sound) inside);
-    stays = λ e. inv ∙ ap (λ b. carried (s .year) b j) (sym (or-false (s .altered))) ∙ after Stays e;
-    is-listed = λ e. rw course (has-le (list (s .year) i) j (lists-it (s .year) i j (narrows .year .sound) inside (struck-open e)));
-    is-possible = λ e. rw (course, possible-is) (weight-le (s .year) i j (narrows .year .sound) inside (struck-open e));
-    strikes = λ e p q.
-        carried-is _ (struck (s .year) i j) _ j
-        (λ n. set (list-is n) i (course n .list - q n))
-        (fixed-is ∙ sym (struck-fixed (s .year) i j (narrows .year .sound) inside (struck-open e)))
-        ((λ n. possible-is n - course n .weight .0) ∙ sym (struck-possible (s .year) i j (narrows .year .sound) inside (struck-open e)))
-        (sym (or-true (s .altered)))
-        ∙ after Struck e;
-    fixes = λ e p q.
-        carried-is _ (placed (s .year) i j) _ j
-        (λ n. set (list-is n) i (q n))
-        ((λ n. fixed-is n + course n .weight .0) ∙ sym (placed-fixed (s .year) i j (narrows .year .sound) inside (fixed-open e)))
-        (possible-is ∙ sym (placed-possible (s .year) i j (narrows .year .sound) inside (fixed-open e)))
-        (sym (or-true (s .altered)))
-        ∙ after Fixed e;
+    p-small = rw (course, fixed-is) (small (t .year) i j sound-now inside);
+    is-listed = λ e. rw course (has-le (list (t .year) i) j (struck-lists e));
+    stays = λ e.
+        let m = ap (λ b. s .altered || b) (sym (or-false (t .altered))) in
+        let r = o .goes-on in
+        inv
+        ∙ (λ n. record { terms = t .year .terms; courses = t .year .courses; term = t .year .term; list = t .year .list; sums = t .year .sums; altered = m n; rule = r n })
+        ∙ after Stays e;
+    asks = subst (λ u. (c .weight .0 ≤ 1000) × ((k : ℕ) → k < 16 → Within (sumsIn u k) (partOf c k))) (sym sums-is) (change-asks (t .year) sound-now i inside c course);
+    alters = λ d x q u f.
+        let new = listAfter v (list (t .year) i) j in
+        let at : x ≡ new = q ∙ ap (λ (a : Course). listAfter v (a .list) j) course in
+        let sums = f ∙ ap (λ b. tab 16 (changedAt b c x)) sums-is ∙ ap (λ b. tab 16 (changedAt (t .year .sums) c b)) at ∙ change-gives (t .year) sound-now i inside c course new in
+        let m = sym (ap (λ b. s .altered || b) (or-true (t .altered)) ∙ or-true (s .altered)) in
+        let r = ap (λ (a : State). a .rule) inv ∙ o .goes-on in
+        (λ n. record {
+          terms = inv n .terms;
+          courses = inv n .courses;
+          term = inv n .term;
+          list = set (inv n .list) i (at n);
+          sums = sums n;
+          altered = m n;
+          rule = r n;
+        })
+        ∙ ap (λ a. held (joined (stepIn ws s) (joined t a))) (sym (judged-alters (t .year) i j v d))
+        ∙ after v refl;
   }

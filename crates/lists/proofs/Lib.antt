@@ -1,5 +1,4 @@
 -- Laws about the courses of a term and about the terms, for the proofs here.
-pub mod SumsAfter
 pub mod CourseLaws
 pub mod HeaviestLaws
 pub mod TermLaws

@@ -13,8 +13,7 @@ use Rattle.theory.proofs.FoldLaws.{fold-more, fold-keeps, fold-finish, fold-non
 use Rattle.theory.specs.Tab.{tab}
 use Rattle.theory.proofs.TabLaws.{getD-tab}
 use Rattle.year.specs.Year.{zeroTerm, termAt, lowCredits}
-use Rattle.year.specs.Sums.{openWeight, fixedCredits, fixedCount, openCount}
-use Rattle.year.specs.SumsOf.{sumsAt, noSums}
+use Rattle.year.specs.Sums.{openWeight, fixedCredits, fixedCount, openCount, sumsAt, noSums}
 use Rattle.year.specs.Sound.{Sound}
 use Rattle.year.specs.declared.Credits.{Credits}
 use Rattle.year.specs.declared.Sums.{Sums}
@@ -27,7 +26,7 @@ use Rattle.frame.specs.declared.State.{State}
 use Rattle.rules.proofs.Narrows.{Narrows, narrows-rest, narrows-over}
 use Rattle.rules.proofs.Passes.{over-joined}
 use Rattle.rules.proofs.Steps.{narrows-3, narrows-10}
-use Rattle.frame.proofs.StateLaws.{year-held, step-held, sound-held, held-self, sums-held}
+use Rattle.frame.proofs.StateLaws.{year-held, step-held, sound-held}
 use Rattle.lists.specs.TermVerdict.{termVerdict3, termVerdict10, termJudged}
 use Rattle.lists.specs.Heaviest.{heaviestAt}
 use Rattle.lists.specs.declared.TermVerdict.{TermVerdict}
@@ -82,7 +81,7 @@ went-on rule s j e = go (eqb (s .rule) 0) refl
 
 -- w is what the rule says of the term
 pub record TermTurn (rule : Year → ℕ → Step) (ws : List ℕ) (s z : State) (j : ℕ) (w : TermVerdict) : Type 0 where
-  pub ready : (j < z .terms) × ((Sound (yearIn ws z)) × ((z ≡ held (stepIn ws z)) × (z .rule ≡ 0)))
+  pub ready : (j < z .terms) × (Sound (yearIn ws z) × (z .rule ≡ 0))
   pub says-nothing : w ≡ Nothing → z ≡ held (overTo rule (stepIn ws s) (j + 1))
   pub is-judged : held (next (termJudged w) (stepIn ws z) j) ≡ held (overTo rule (stepIn ws s) (j + 1))
 
@@ -107,33 +106,30 @@ module _ (rule : Year → ℕ → Step) (l : OnLists rule) (ws : List ℕ) (s : 
   weights-same = rw year-same (sym (narrows-at .year .weight-same))
 
   step-at : stepIn ws z ≡ p
-  step-at = step-held ws p sound-same weights-same z inv
+  step-at = step-held ws p weights-same z inv
 
   year-at : yearIn ws z ≡ t .year
-  year-at = year-held ws p sound-same weights-same z inv ∙ year-same
-
-  held-at : z ≡ held (stepIn ws z)
-  held-at = held-self ws p sound-same weights-same z inv
+  year-at = year-held ws p weights-same z inv ∙ year-same
 
   sound-at : Sound (yearIn ws z)
-  sound-at = sound-held ws p sound-same weights-same z inv
+  sound-at = sound-held ws p weights-same z inv sound-same
 
   term-at : termAt (yearIn ws s) j ≡ termAt (yearIn ws z) j
   term-at = sym (ap (λ (y : Year). termAt y j) year-at ∙ ap (λ ts. getD ts j zeroTerm) (terms-over rule l (yearIn ws s) j))
 
   sums-at : getD (z .sums) j noSums ≡ sumsAt (yearIn ws z) j
-  sums-at = sums-read (yearIn ws z) (z .sums) (sums-held ws z held-at) j (omega (arith, sound))
+  sums-at = sums-read (yearIn ws z) (z .sums) (sound-at .sums-kept) j (omega (arith, sound))
 
   same : held (next rule (stepIn ws z) j) ≡ held (overTo rule (stepIn ws s) (j + 1))
   same = ap (λ x. held (next rule x j)) step-at ∙ ap held (sym (fold-more goes (then rule) (stepIn ws s) j))
 
   turn-at : z .rule ≡ 0 → (w : TermVerdict) → rule (yearIn ws z) j ≡ termJudged w (yearIn ws z) j → TermTurn rule ws s z j w
   turn-at going w is = record {
-    ready = (omega (arith, ap (λ (y : Year). y .terms) year-at, narrows-at .year .terms-same), (sound-at, (held-at, going)));
+    ready = (omega (arith, ap (λ (y : Year). y .terms) year-at, narrows-at .year .terms-same), (sound-at, going));
     says-nothing = λ q.
         let still : rule (yearIn ws z) j ≡ live (yearIn ws z) = is ∙ ap (λ v. termJudged v (yearIn ws z) j) q ∙ nothing-is (yearIn ws z) j in
         let quiet : stepIn ws z ≡ next rule (stepIn ws z) j = rw (going, still) (step-is refl (sym (or-false (z .altered))) refl) in
-        held-at ∙ ap held quiet ∙ same;
+        ap held quiet ∙ same;
     is-judged = ap (λ (x : Step). held (choose (eqb (z .rule) 0) (step (x .year) (z .altered || x .altered) (x .rule)) (stepIn ws z))) (sym is) ∙ same;
   }
 

@@ -1,35 +1,26 @@
 -- A term of rules 3 and 10 under its verdict: what the code makes of it is what the rule does there.
 use Prim.Native.Nat.{ℕ, zero, suc, _+_, _-_, _≤_, _<_}
-use mathlib.Core.Bool.{Bool, true, false, _&&_, _||_, or-true, or-false}
+use mathlib.Core.Bool.{Bool, true, false, _&&_, _||_, or-false}
 use mathlib.Core.List.{List}
-use mathlib.Core.Path.{_≡_, refl, sym, ap, subst, _∙_}
-use native.Mathlib.Nat.{le-refl}
+use mathlib.Core.Path.{_≡_, refl, sym, ap, _∙_}
 use native.Mathlib.Omega.{arith}
 use lib.Dec.{leb, ltb}
 use borrow.Author.Tests.{le-ltb, leb-true, ltb-false}
 use Rattle.theory.specs.Fold.{fold}
 use Rattle.theory.specs.Choice.{choose}
 use Rattle.theory.proofs.ChoiceLaws.{choose-any}
-use Rattle.theory.specs.Tab.{tab}
 use Rattle.year.specs.Year.{termAt, courseAt, weight, isOpen, lowCredits, highCredits, lowCount, highCount}
-use Rattle.year.specs.Sums.{openWeight, fixedCredits, openCredits, possibleCredits, fixedCount, openCount}
-use Rattle.year.specs.SumsOf.{sumsTo, sumsAt}
-use Rattle.year.specs.Sound.{Sound}
-use Rattle.year.specs.declared.Sums.{Sums}
+use Rattle.year.specs.Sums.{openWeight, fixedCredits, openCredits, possibleCredits, fixedCount, openCount, sumsAt}
 use Rattle.year.specs.declared.Year.{Year}
 use Rattle.year.proofs.SumLaws.{none-open}
-use Rattle.rules.specs.Step.{live, dead, judged, next, overTo, overCourses, Step, joined}
+use Rattle.rules.specs.Step.{step, live, dead, judged, next, overTo, overCourses, Step, joined}
 use Rattle.frame.specs.State.{held, yearIn, stepIn}
 use Rattle.rules.specs.Lists.{verdict3, rule3Course, rule3, full, needed, verdict10, rule10Course, rule10}
 use Rattle.frame.specs.declared.State.{State}
 use Rattle.rules.specs.declared.Verdict.the-variants.{Stays}
-use Rattle.rules.proofs.Narrows.{Narrows, narrows-rest, narrows-over}
-use Rattle.frame.proofs.StateLaws.{sums-held}
-use Rattle.lists.specs.TermVerdict.{carriedOf, courseJudged, termVerdict3, termVerdict10, termJudged}
+use Rattle.lists.specs.TermVerdict.{courseJudged, termVerdict3, termVerdict10, termJudged}
 use Rattle.lists.specs.declared.TermVerdict.{TermVerdict}
 use Rattle.lists.specs.declared.TermVerdict.the-variants.{Nothing, ByCredits, ByCounts, NoPlan}
-use Rattle.lists.specs.declared.Carried.{Carried}
-use Rattle.lists.proofs.CourseLaws.{lawful, Onward, onward}
 
 -- a step is its parts
 pub step-is : {s t : Step} → s .year ≡ t .year → s .altered ≡ t .altered → s .rule ≡ t .rule → s ≡ t
@@ -43,60 +34,18 @@ courses-of ByCredits y j d = refl
 courses-of (ByCounts full needed) y j d = refl
 courses-of (NoPlan r) y j d = absurd (d r refl)
 
--- s with other lists, sums, mark and rule
-abbrev stateWith : State → List ℕ → List Sums → Bool → ℕ → State
-stateWith s l u a r = record { terms = s .terms; courses = s .courses; term = s .term; list = l; sums = u; altered = a; rule = r }
-
-module _ (ws : List ℕ) (s : State) (w : TermVerdict) (j : ℕ) (h : j < s .terms) (sound : Sound (yearIn ws s)) (e : s ≡ held (stepIn ws s)) (z : s .rule ≡ 0) where
+module _ (ws : List ℕ) (s : State) (w : TermVerdict) (j : ℕ) (z : s .rule ≡ 0) where
   abbrev after : State
   after = held (next (termJudged w) (stepIn ws s) j)
 
-  pub no-plan : (r : ℕ) → w ≡ NoPlan r → stateWith s (s .list) (s .sums) (s .altered) r ≡ after
-  no-plan r q = rw (q, z) (λ i. stateWith s (s .list) (sums-held ws s e i) (sym (or-false (s .altered)) i) r)
+  -- no plan
+  pub no-plan : (r : ℕ) → w ≡ NoPlan r
+      → record { terms = s .terms; courses = s .courses; term = s .term; list = s .list; sums = s .sums; altered = s .altered; rule = r } ≡ after
+  no-plan r q = rw (q, z) (λ i. held (step (yearIn ws s) (sym (or-false (s .altered)) i) r))
 
-  -- k after the courses of the term
-  module _ (d : (r : ℕ) → w ≡ NoPlan r → ⊥) (k : Carried) (q : k ≡ carriedOf (overCourses (courseJudged w j) (live (yearIn ws s))) j) where
-    abbrev t : Step
-    t = overCourses (courseJudged w j) (live (yearIn ws s))
-
-    o : Onward (yearIn ws s) (s .courses) t
-    o = onward w j (yearIn ws s) (s .courses)
-
-    narrows : Narrows (yearIn ws s) t
-    narrows =
-        narrows-over (courseJudged w j) (s .courses) (yearIn ws s) (live (yearIn ws s)) (lawful w (s .terms) (s .courses) j h) (narrows-rest (yearIn ws s) 0 sound) (s .courses) (le-refl (s .courses))
-
-    mark : k .altered ≡ t .altered
-    mark = ap (λ (z : Carried). z .altered) q
-
-    after-is : after ≡ held (joined (stepIn ws s) t)
-    after-is = rw (z, courses-of w (yearIn ws s) j d)
-
-    pub unaltered : k .altered ≡ false → s ≡ after
-    unaltered a =
-        let still : t .altered ≡ false = sym mark ∙ a in
-        e
-        ∙ ap held (step-is (sym (narrows .still still)) (sym (or-false (s .altered)) ∙ ap (λ b. s .altered || b) (sym still)) (z ∙ sym (o .goes-on)))
-        ∙ sym after-is
-
-    -- the year of the new lists
-    abbrev new : Year
-    new = record { terms = s .terms; courses = s .courses; term = s .term; weight = ws; list = k .list }
-
-    new-is : new ≡ t .year
-    new-is =
-        let n = narrows .year in
-        λ i. record { terms = sym (n .terms-same) i; courses = sym (n .courses-same) i; term = sym (o .term-same) i; weight = sym (n .weight-same) i; list = q i .list }
-
-    pub new-sound : Sound new
-    new-sound = subst Sound (sym new-is) (narrows .year .sound)
-
-    pub alters : k .altered ≡ true → (u : List Sums) → u ≡ tab 16 (sumsTo ws (k .list) (s .courses)) → stateWith s (k .list) u true 0 ≡ after
-    unfolding sumsAt
-    alters a u f =
-        ap (λ u. stateWith s (k .list) u true 0) f
-        ∙ ap held (step-is new-is (sym (or-true (s .altered)) ∙ ap (λ b. s .altered || b) (sym a ∙ mark)) (sym (o .goes-on)))
-        ∙ sym after-is
+  -- its courses
+  pub courses-are : ((r : ℕ) → w ≡ NoPlan r → ⊥) → held (joined (stepIn ws s) (overCourses (courseJudged w j) (live (yearIn ws s)))) ≡ after
+  courses-are d = rw (z, courses-of w (yearIn ws s) j d) refl
 
 -- ---- rules 3 and 10 at a term, under its verdict
 

@@ -1,6 +1,6 @@
--- What rules 3 and 10 say of a whole term, what that makes of its courses, and what the code carries from course to course.
-use Prim.Native.Nat.{ℕ, _+_}
-use mathlib.Core.Bool.{Bool, _&&_, _||_}
+-- What rules 3 and 10 say of a whole term, and what that makes of its courses.
+use Prim.Native.Nat.{ℕ, _+_, _-_, _^_}
+use mathlib.Core.Bool.{_&&_, _||_}
 use lib.Dec.{eqb, leb, ltb}
 use Rattle.theory.specs.Choice.{choose}
 use Rattle.year.specs.Year.{termAt, courseAt}
@@ -12,10 +12,9 @@ use Rattle.year.specs.declared.Year.{Year}
 use Rattle.rules.specs.Step.{live, dead, judged, overCourses, Step}
 use Rattle.rules.specs.Lists.{verdict3, verdict10}
 use Rattle.rules.specs.declared.Verdict.{Verdict}
-use Rattle.rules.specs.declared.Verdict.the-variants.{Stays}
+use Rattle.rules.specs.declared.Verdict.the-variants.{Stays, Struck, Fixed}
 use Rattle.lists.specs.declared.TermVerdict.{TermVerdict}
 use Rattle.lists.specs.declared.TermVerdict.the-variants.{Nothing, ByCredits, ByCounts, NoPlan}
-use Rattle.lists.specs.declared.Carried.{Carried}
 
 -- ---- what a rule says of a term, from its bounds and its sums
 
@@ -41,6 +40,12 @@ courseVerdict ByCredits c t p P j = verdict3 c t p P j
 courseVerdict (ByCounts full needed) c t p P j = verdict10 full needed c j
 courseVerdict (NoPlan r) c t p P j = Stays
 
+-- a course's list after a verdict in term j
+abbrev pub listAfter : Verdict → ℕ → ℕ → ℕ
+listAfter Stays l j = l
+listAfter Struck l j = l - 2 ^ j
+listAfter Fixed l j = 2 ^ j
+
 -- a course of term j under it, with p and P read anew
 unfoldable pub courseJudged : TermVerdict → ℕ → Year → ℕ → Step
 courseJudged w j y i = judged y i j (courseVerdict w (courseAt y i) (termAt y j) (fixedCredits y j) (possibleCredits y j) j)
@@ -51,17 +56,3 @@ termJudged (NoPlan r) y j = dead r y
 termJudged Nothing y j = overCourses (courseJudged Nothing j) (live y)
 termJudged ByCredits y j = overCourses (courseJudged ByCredits j) (live y)
 termJudged (ByCounts full needed) y j = overCourses (courseJudged (ByCounts full needed) j) (live y)
-
--- ---- what the code carries
-
--- a year's lists with p and P of term j
-abbrev pub carried : Year → Bool → ℕ → Carried
-carried y a j = record {
-  list = y .list;
-  fixed = record { 0 = fixedCredits y j };
-  possible = record { 0 = possibleCredits y j };
-  altered = a;
-}
-
-abbrev pub carriedOf : Step → ℕ → Carried
-carriedOf s j = carried (s .year) (s .altered) j

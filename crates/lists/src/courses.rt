@@ -1,56 +1,42 @@
-// The courses of a term in rising number: the verdict on each, and what it makes of the course's list.
-use crate::Carried;
+// The courses of a term in rising number: the verdict on each, and what it makes of the course's list and of the sums.
 use crate::TermVerdict;
 use crate::verdicts;
 use frame::State;
 use rules::Verdict;
-use year::doors;
 use year::pairs;
+use year::summing;
 ghost use mathlib.Core.Path.{_≡_};
 ghost use Prim.Native.Nat.{_<_};
 ghost use Rattle.year.specs.Sound.{Sound};
-ghost use Rattle.rules.specs.Step.{live, overCourses};
+ghost use Rattle.rules.specs.Step.{live, joined, overCourses};
 ghost use Rattle.frame.specs.State.{held, yearIn, stepIn};
-ghost use Rattle.lists.specs.TermVerdict.{carriedOf, courseJudged};
+ghost use Rattle.lists.specs.TermVerdict.{courseJudged};
 
-// The courses of term j, one after the other.
-pub fn each_course(s: State, weight: &[u32], j: usize, whole: TermVerdict) -> Carried
+// The courses of term j of a state that goes on, one after the other.
+pub fn each_course(s: State, weight: &[u32], j: usize, whole: TermVerdict) -> State
     requires { ⌜ j < s .terms ⌝ }
     requires { ⌜ Sound (yearIn (now weight) s) ⌝ }
-    requires { ⌜ s ≡ held (stepIn (now weight) s) ⌝ }
-    ensures { λ r. ⌜ r ≡ carriedOf (overCourses (courseJudged whole j) (live (yearIn (now (weight .entry)) s))) j ⌝ }
+    requires { ⌜ s .rule ≡ 0 ⌝ }
+    ensures { λ r. ⌜ r ≡ held (joined (stepIn (now (weight .entry)) s) (overCourses (courseJudged whole j) (live (yearIn (now (weight .entry)) s)))) ⌝ }
 {
     let t = s.term[j];
-    let u = s.sums[j];
     let list = s.list;
-    let fixed = u.fixed;
-    let possible = u.possible;
-    let mut k = Carried {
-        list: list,
-        fixed: fixed,
-        possible: possible,
-        altered: false,
-    };
+    let mut z = s;
     let mut i = 0;
     while i < s.courses {
         // only courses before i were altered
         let c = pairs::course_in(weight, &list, i);
-        let credits = c.weight.0;
-        let v = verdicts::course_verdict(whole, c, t, k.fixed, k.possible, j);
-        match v {
-            Verdict::Struck => {
-                k.list[i] = c.list - doors::power(j);
-                k.possible.0 = k.possible.0 - credits;
-                k.altered = true;
-            }
-            Verdict::Fixed => {
-                k.list[i] = doors::power(j);
-                k.fixed.0 = k.fixed.0 + credits;
-                k.altered = true;
-            }
-            Verdict::Stays => {}
+        let u = z.sums[j];
+        let v = verdicts::course_verdict(whole, c, t, u.fixed, u.possible, j);
+        if let Verdict::Stays = v {} else {
+            let sums = z.sums;
+            let after = verdicts::list_after(v, c.list, j);
+            let next = summing::changed(sums, c, after);
+            z.list[i] = after;
+            z.sums = next;
+            z.altered = true;
         }
         i += 1;
     }
-    k
+    z
 }

@@ -17,7 +17,7 @@ fn heavier(heaviest: Credits, c: Course, k: usize) -> Credits
     requires { ⌜ k < 16 ⌝ }
     ensures { λ r. ⌜ r .0 ≡ max (heaviest .0) (pick (isOpen c k) (c .weight .0)) ⌝ }
 {
-    let open = totals::is_open(c, k);
+    let open = pairs::is_open(c, k);
     if open & (heaviest.0 < c.weight.0) {
         return c.weight;
     }

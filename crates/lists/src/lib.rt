@@ -5,21 +5,11 @@ mod terms;
 mod verdicts;
 
 use frame::State;
-use year::Credits;
-use year::Year;
 ghost use mathlib.Core.Path.{_≡_};
 ghost use Rattle.year.specs.Sound.{Sound};
 ghost use Rattle.rules.specs.Step.{overTerms};
 ghost use Rattle.frame.specs.State.{held, yearIn, stepIn};
 ghost use Rattle.rules.specs.Lists.{rule3, rule10};
-
-// What the loop over the courses of a term carries: the lists, the credits fixed in that term (p) and those possible there (P).
-pub struct Carried {
-    pub list: [u16; Year::COURSES],
-    pub fixed: Credits,
-    pub possible: Credits,
-    pub altered: bool,
-}
 
 // What a rule says of a whole term, beside `Verdict`, what it says of a course: nothing, as no course has a verdict; its courses
 // have theirs by credits (rule 3), or by counts (rule 10), where the term is full or needs all; or there is no plan, by that rule.
@@ -33,7 +23,6 @@ pub enum TermVerdict {
 // Rule 3 over the terms of the year.
 pub fn rule_3(s: State, weight: &[u32]) -> State
     requires { ⌜ Sound (yearIn (now weight) s) ⌝ }
-    requires { ⌜ s ≡ held (stepIn (now weight) s) ⌝ }
     ensures { λ r. ⌜ r ≡ held (overTerms rule3 (stepIn (now (weight .entry)) s)) ⌝ }
 {
     if s.rule != 0 {
@@ -56,7 +45,6 @@ pub fn rule_3(s: State, weight: &[u32]) -> State
 // Rule 10 over the terms of the year, up to one where it finds no plan. Where a rule before it found none, the loop ends at once.
 pub fn rule_10(s: State, weight: &[u32]) -> State
     requires { ⌜ Sound (yearIn (now weight) s) ⌝ }
-    requires { ⌜ s ≡ held (stepIn (now weight) s) ⌝ }
     ensures { λ r. ⌜ r ≡ held (overTerms rule10 (stepIn (now (weight .entry)) s)) ⌝ }
 {
     let mut z = s;

@@ -9,11 +9,10 @@ ghost use Rattle.rules.specs.Step.{next};
 ghost use Rattle.frame.specs.State.{held, yearIn, stepIn};
 ghost use Rattle.lists.specs.TermVerdict.{termJudged};
 
-// Term j of a state that goes on. The sums are computed anew only where a list was altered.
+// Term j of a state that goes on.
 pub fn term_judged(s: State, weight: &[u32], j: usize, whole: TermVerdict) -> State
     requires { ⌜ j < s .terms ⌝ }
     requires { ⌜ Sound (yearIn (now weight) s) ⌝ }
-    requires { ⌜ s ≡ held (stepIn (now weight) s) ⌝ }
     requires { ⌜ s .rule ≡ 0 ⌝ }
     ensures { λ r. ⌜ r ≡ held (next (termJudged whole) (stepIn (now (weight .entry)) s) j) ⌝ }
 {
@@ -22,20 +21,5 @@ pub fn term_judged(s: State, weight: &[u32], j: usize, whole: TermVerdict) -> St
         z.rule = rule;
         return z;
     }
-    let k = courses::each_course(s, weight, j, whole);
-    if !k.altered {
-        return s;
-    }
-    let term = s.term;
-    let list = k.list;
-    let sums = totals::sums_over(weight, &list, s.terms, s.courses);
-    State {
-        terms: s.terms,
-        courses: s.courses,
-        term: term,
-        list: list,
-        sums: sums,
-        altered: true,
-        rule: 0,
-    }
+    courses::each_course(s, weight, j, whole)
 }

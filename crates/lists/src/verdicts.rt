@@ -6,11 +6,14 @@ use year::Courses;
 use year::Credits;
 use year::Sums;
 use year::Term;
+use year::doors;
+use year::pairs;
 use year::tighter;
 ghost use mathlib.Core.Path.{_≡_};
-ghost use Prim.Native.Nat.{_+_, _-_, _<_};
+ghost use Prim.Native.Nat.{_+_, _-_, _^_, _≤_, _<_};
 ghost use Rattle.rules.specs.Lists.{verdict3, verdict10};
-ghost use Rattle.lists.specs.TermVerdict.{termVerdict3, termVerdict10, courseVerdict};
+ghost use Rattle.rules.specs.declared.Verdict.the-variants.{Struck};
+ghost use Rattle.lists.specs.TermVerdict.{termVerdict3, termVerdict10, courseVerdict, listAfter};
 
 // Rule 3: no open course of the term weighs more than `heaviest`, so it says nothing with room for that and enough without it.
 pub fn term_verdict_3(t: Term, u: Sums, heaviest: Credits) -> TermVerdict
@@ -46,7 +49,7 @@ fn verdict_3(c: Course, t: Term, p: Credits, possible: Credits, j: usize) -> Ver
     requires { ⌜ p .0 + c .weight .0 < 100000 ⌝ }
     ensures { λ r. ⌜ r ≡ verdict3 c t (p .0) (possible .0) j ⌝ }
 {
-    if !totals::is_open(c, j) {
+    if !pairs::is_open(c, j) {
         return Verdict::Stays;
     }
     if t.high.0 < p.0 + c.weight.0 {
@@ -63,7 +66,7 @@ fn verdict_10(full: bool, needed: bool, c: Course, j: usize) -> Verdict
     requires { ⌜ j < 16 ⌝ }
     ensures { λ r. ⌜ r ≡ verdict10 full needed c j ⌝ }
 {
-    if !totals::is_open(c, j) {
+    if !pairs::is_open(c, j) {
         return Verdict::Stays;
     }
     if full {
@@ -93,5 +96,18 @@ pub fn course_verdict(
         TermVerdict::ByCounts(full, needed) => verdict_10(full, needed, c, j),
         TermVerdict::Nothing => Verdict::Stays,
         TermVerdict::NoPlan(_) => Verdict::Stays,
+    }
+}
+
+// A course's list after a verdict in term j.
+pub fn list_after(v: Verdict, list: u16, j: usize) -> u16
+    requires { ⌜ j < 16 ⌝ }
+    requires { ⌜ (v ≡ Struck → 2 ^ j ≤ list) ⌝ }
+    ensures { λ r. ⌜ r ≡ listAfter v list j ⌝ }
+{
+    match v {
+        Verdict::Struck => list - doors::power(j),
+        Verdict::Fixed => doors::power(j),
+        Verdict::Stays => list,
     }
 }

@@ -6,7 +6,6 @@ mod thresholds;
 use frame::State;
 use year::Credits;
 ghost use mathlib.Core.Path.{_≡_};
-ghost use lib.ListN.{length};
 ghost use Rattle.year.specs.Sound.{Sound};
 ghost use Rattle.frame.specs.State.{held, yearIn, stepIn};
 ghost use Rattle.rules.specs.Packing.{rule11};
@@ -17,7 +16,6 @@ ghost use Rattle.packing.specs.Sizes.{unpackable};
 // Some term is over its high credits already, or the sizes are too much for all terms together.
 fn unpackable(s: State, weight: &[u32], rising: &[u8]) -> bool
     requires { ⌜ Sound (yearIn (now weight) s) ⌝ }
-    requires { ⌜ s ≡ held (stepIn (now weight) s) ⌝ }
     requires { ⌜ now rising ≡ up (yearIn (now weight) s) ⌝ }
     ensures { λ r. ⌜ r ≡ unpackable (yearIn (now (weight .entry)) s) ⌝ }
 {
@@ -27,6 +25,10 @@ fn unpackable(s: State, weight: &[u32], rising: &[u8]) -> bool
     let sums = s.sums;
     if bins::bursting(term, m, sums) {
         return true;
+    }
+    // with no open course only the terms are to be packed, and each fits where it is
+    if totals::none_open(m, sums) {
+        return false;
     }
     let c = bins::room(term, m);
     if c.0 == 0 {
@@ -43,7 +45,6 @@ fn unpackable(s: State, weight: &[u32], rising: &[u8]) -> bool
 // Rule 11, once for the year. `rising` is its courses from lightest to heaviest.
 pub fn rule_11(s: State, weight: &[u32], rising: &[u8]) -> State
     requires { ⌜ Sound (yearIn (now weight) s) ⌝ }
-    requires { ⌜ s ≡ held (stepIn (now weight) s) ⌝ }
     requires { ⌜ now rising ≡ up (yearIn (now weight) s) ⌝ }
     ensures { λ r. ⌜ r ≡ held (once rule11 (stepIn (now (weight .entry)) s)) ⌝ }
 {

@@ -4,6 +4,7 @@ use Rattle.promises.specs.Promises.{Promises}
 use Rattle.promises.proofs.Rounds.{filtering-narrows}
 use Rattle.promises.proofs.Narrowings.{each-narrowing}
 use Rattle.promises.proofs.SettledPlan.{one-placing}
+use Rattle.promises.proofs.SumsKept.{sums-kept}
 use Rattle.promises.proofs.ByHand.{made-by-hand}
 use Rattle.promises.proofs.ImbalancePlan.{imbalance-means}
 use Rattle.promises.proofs.JoinedYear.{hours-mean}
@@ -31,6 +32,7 @@ promises M = record {
   each-narrowing = each-narrowing;
   filtering-narrows = filtering-narrows;
   one-placing = one-placing;
+  sums-kept = sums-kept;
   made-by-hand = made-by-hand;
   spare-room = spare-room;
   sizes-are-enough = at-sizes-is;

@@ -1,7 +1,7 @@
 -- What the calls for other languages leave in a lent buffer: by cases of the answers of the reading and of the call.
-use Prim.Native.Nat.{ℕ, _+_, _*_, _/_, _≤_}
+use Prim.Native.Nat.{ℕ, _+_, _*_, _≤_}
 use mathlib.Core.List.{List, _++_}
-use mathlib.Core.Path.{_≡_, refl, ap, _∙_}
+use mathlib.Core.Path.{_≡_, refl, sym, ap, _∙_}
 use native.Mathlib.Omega.{arith}
 use lib.Dec.{eqb, ltb}
 use lib.ListN.{length, drop}
@@ -18,7 +18,7 @@ use Rattle.records.specs.Reading.{readList, done}
 use Rattle.records.specs.Writing.{recordsOf, written}
 use Rattle.records.specs.declared.Reading.{Reading}
 use Rattle.records.specs.declared.Reading.the-variants as reading
-use Rattle.records.proofs.ListLaws.{list-read, read-front, read-sound}
+use Rattle.records.proofs.ListLaws.{read-length, read-sound}
 use Rattle.records.proofs.WriteLaws.{records-length, written-is}
 use Rattle.hours.specs.Numbers.{joiningNumber}
 use Rattle.hours.specs.Joining.{joinOf}
@@ -53,10 +53,7 @@ left-same (reading.Refused f k) own b e = refl
 
 -- a list has sixteen bytes for each term and course that was read
 list-length : (s : List ℕ) (y : Year) → readList s ≡ done y → length s ≡ (y .terms + y .courses) * 16
-list-length s y e =
-    let l = list-read s y e in
-    let f = read-front s (length s / 16) y (l .2) in
-    omega (arith, l .1, f .count)
+list-length s y e = sym (read-length s y e)
 
 -- a sound year of as many terms and courses fills as many bytes
 filled : (s b : List ℕ) (y z : Year) → readList s ≡ done y → Sound z → z .terms ≡ y .terms → z .courses ≡ y .courses → length s ≤ length b

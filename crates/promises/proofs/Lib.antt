@@ -16,6 +16,7 @@ pub mod Refusals
 pub mod Joining
 pub mod JoinedYear
 pub mod Sequence
+pub mod SumsKept
 pub mod SpareRoom
 pub mod Boundary
 pub mod Decimal

@@ -13,7 +13,7 @@ use Rattle.theory.proofs.TestLaws.{or-false, same-less}
 use Rattle.theory.specs.Bits.{has}
 use Rattle.theory.proofs.BitLaws.{has-power}
 use Rattle.year.specs.Year.{termAt, courseAt, list, lists, isFixed, lowCredits, highCredits, lowCount, highCount}
-use Rattle.year.specs.Doors.{withList, withTerm, placed, struck}
+use Rattle.year.specs.Doors.{withSums, withList, withTerm, placed, struck}
 use Rattle.year.specs.Tight.{creditsWithin, countsWithin}
 use Rattle.year.specs.Narrow.{answered, checked, noSuch, placing, barring, placeOf, barOf, tightened, raiseLowCreditsOf, lowerHighCreditsOf, raiseLowCountOf, lowerHighCountOf}
 use Rattle.year.specs.Plans.{Placing, Plan}
@@ -24,7 +24,7 @@ use Rattle.year.specs.declared.Year.{Year}
 use Rattle.year.specs.declared.Narrowing.{Narrowing}
 use Rattle.year.specs.declared.Narrowing.the-variants.{Done, Unsound, Missing, Outside, Crossing}
 use Rattle.year.specs.declared.Narrowed.{Narrowed}
-use Rattle.year.proofs.SoundLaws.{sound-of}
+use Rattle.year.proofs.SoundLaws.{sound-of, with-sums-same}
 use Rattle.rules.specs.Step.{outcome}
 use Rattle.rules.specs.Narrower.{Narrower}
 use Rattle.rules.proofs.Narrows.{narrower-self}
@@ -172,14 +172,16 @@ there-are y i j e =
     (leb-false (y .courses) i (r .0), leb-false (y .terms) j (r .1))
 
 module _ (y : Year) (i j : ℕ) where
-  own-list : withList y i (list y i) ≡ y
-  own-list = λ k. record { terms = y .terms; courses = y .courses; term = y .term; weight = y .weight; list = set-getD (y .list) i 0 k }
+  own-list : Sound y → withList y i (list y i) ≡ y
+  own-list s =
+      (λ k. withSums (record { terms = y .terms; courses = y .courses; term = y .term; weight = y .weight; list = set-getD (y .list) i 0 k; sums = y .sums }))
+      ∙ with-sums-same y (s .sums-kept)
 
   placed-narrower : Sound y → i < y .courses → j < y .terms → lists (courseAt y i) j ≡ true → Narrower y (placed y i j)
   placed-narrower s h l e = go (isFixed (courseAt y i) j) refl
     where
       go : (b : Bool) → isFixed (courseAt y i) j ≡ b → Narrower y (placed y i j)
-      go true q = subst (Narrower y) (sym (ap (withList y i) (sym (eqb-true (list y i) (2 ^ j) q)) ∙ own-list)) (narrower-self y s)
+      go true q = subst (Narrower y) (sym (ap (withList y i) (sym (eqb-true (list y i) (2 ^ j) q)) ∙ own-list s)) (narrower-self y s)
       go false q = narrows-placed y i j s h l (rw (e, q) refl) .year
 
   placing-narrows : NarrowedBy y (place i j) (placeOf y i j)

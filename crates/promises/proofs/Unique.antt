@@ -13,6 +13,7 @@ pub one-result : OneResult
 one-result = record {
   empty = λ κs. by-one _;
   by-hand = λ κs. by-one _;
+  summed = λ κs. by-one _;
   course = λ κs. by-one _;
   is-sound = λ κs. by-one _;
   place = λ κs. by-one _;

@@ -2,6 +2,7 @@
 -- trapping, in an end that meets its contract. Unique says that no contract asks anything and that it allows one end.
 use Rattle.year.proofs.Year.empty.Statement as empty-call
 use Rattle.year.proofs.Year.by_hand.Statement as by-hand-call
+use Rattle.year.proofs.Year.summed.Statement as summed-call
 use Rattle.year.proofs.Year.course.Statement as course-call
 use Rattle.year.proofs.sound.is_sound.Statement as is-sound-call
 use Rattle.year.proofs.Year.place.Statement as place-call
@@ -28,6 +29,7 @@ use Rattle.display.proofs.front.Statement as front-call
 pub record EachAnswers (M : Type 1) : Type 2 where
   pub empty : empty-call.statement M
   pub by-hand : by-hand-call.statement M
+  pub summed : summed-call.statement M
   pub course : course-call.statement M
   pub is-sound : is-sound-call.statement M
   pub place : place-call.statement M

@@ -16,6 +16,7 @@ pub mod OnePlacing
 pub mod Table
 pub mod Unique
 pub mod Answering
+pub mod SumsKept
 pub mod ByHand
 pub mod SpareRoom
 pub mod SizesTried

@@ -9,6 +9,7 @@ use Rattle.promises.specs.Unique.{OneResult}
 use Rattle.promises.specs.Narrowings.{EachNarrowing}
 use Rattle.promises.specs.Rounds.{FilteringNarrows}
 use Rattle.promises.specs.OnePlacing.{OnePlacing}
+use Rattle.promises.specs.SumsKept.{SumsKept}
 use Rattle.promises.specs.ByHand.{MadeByHand}
 use Rattle.promises.specs.SpareRoom.{SpareRoom}
 use Rattle.promises.specs.SizesTried.{SizesAreEnough}
@@ -28,6 +29,7 @@ pub record Promises (M : Type 1) : Type 2 where
   pub each-narrowing : EachNarrowing
   pub filtering-narrows : FilteringNarrows
   pub one-placing : OnePlacing
+  pub sums-kept : SumsKept
   pub made-by-hand : MadeByHand
   pub spare-room : SpareRoom
   pub sizes-are-enough : SizesAreEnough

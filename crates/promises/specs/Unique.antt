@@ -7,6 +7,7 @@ use contract.Lifetimes.{Lfts}
 use denote.Ref.{RefT, now}
 use Rattle.year.proofs.Year.empty.Reads as empty-call
 use Rattle.year.proofs.Year.by_hand.Reads as by-hand-call
+use Rattle.year.proofs.Year.summed.Reads as summed-call
 use Rattle.year.proofs.Year.course.Reads as course-call
 use Rattle.year.proofs.sound.is_sound.Reads as is-sound-call
 use Rattle.year.proofs.Year.place.Reads as place-call
@@ -60,6 +61,7 @@ bytesOf r e = now r
 pub record OneResult : Type 0 where
   pub empty : (κs : Lfts 0) → One (empty-call.Pre κs) (empty-call.Post κs) result
   pub by-hand : (κs : Lfts 0) → One (by-hand-call.Pre κs) (by-hand-call.Post κs) result
+  pub summed : (κs : Lfts 0) → One (summed-call.Pre κs) (summed-call.Post κs) result
   pub course : (κs : Lfts 0) → One (course-call.Pre κs) (course-call.Post κs) result
   pub is-sound : (κs : Lfts 0) → One (is-sound-call.Pre κs) (is-sound-call.Post κs) result
   pub place : (κs : Lfts 0) → One (place-call.Pre κs) (place-call.Post κs) result

@@ -1,6 +1,6 @@
 -- Records taken into a year one by one: what holds of the first year and is kept by each record holds of the year at the end; a
--- refusal is the first fault. What each record is, is left open.
-use Prim.Native.Nat.{ℕ, zero, suc, _+_, _-_, _≤_, _<_}
+-- refusal is the first fault; what was taken is sound with its sums. What each record is, is left open.
+use Prim.Native.Nat.{ℕ, zero, suc, _+_, _-_, _^_, _≤_, _<_}
 use mathlib.Core.Bool.{Bool, true, false}
 use mathlib.Core.Logic.{_⊎_, inl, inr}
 use mathlib.Core.Path.{_≡_, refl, sym, ap, ap₂, _∙_}
@@ -10,9 +10,11 @@ use native.Mathlib.Decide.{ℕ-discrete}
 use lib.ListN.{length, length-set, length-replicate, getD-replicate}
 use lib.Seq.{getD-set-same, getD-set-other}
 use Rattle.theory.specs.Choice.{choose}
-use Rattle.year.specs.Year.{termAt, courseAt, courseOf, zeroTerm, zeroCourse}
-use Rattle.year.specs.Doors.{emptyYear}
+use Rattle.year.specs.Year.{termAt, courseAt, courseOf, weight, list, zeroTerm, zeroCourse}
+use Rattle.year.specs.Sums.{fixedCredits, openCredits, fixedCount, openCount, sumsAt}
+use Rattle.year.specs.Doors.{emptyYear, withSums}
 use Rattle.year.specs.Sound.{TermSound, CourseSound, Sound}
+use Rattle.year.specs.Computing.{computing as computingYear}
 use Rattle.year.specs.declared.Term.{Term}
 use Rattle.year.specs.declared.Course.{Course}
 use Rattle.year.specs.declared.Year.{Year}
@@ -21,7 +23,7 @@ use Rattle.records.specs.declared.Fault.the-variants as fault
 use Rattle.records.specs.declared.Reading.{Reading}
 use Rattle.records.specs.declared.Reading.the-variants.{Done, Refused}
 use Rattle.records.specs.declared.Received.{Received}
-use Rattle.records.specs.Reading.{Record, OfTerm, OfCourse, Faulty, blankYear, addTerm, addCourse, done, refused, taken, onward, gathered}
+use Rattle.records.specs.Reading.{Record, OfTerm, OfCourse, Faulty, blankYear, addTerm, addCourse, done, refused, taken, onward, gathered, summed}
 
 done-same : (y z : Year) → done y ≡ done z → y ≡ z
 done-same y z e = ap (λ (r : Received). r .year) e
@@ -163,9 +165,27 @@ module _ (bad : Bool) (entry : ℕ → Year → Record) (start : Year) (n : ℕ)
           (λ i. record { answer = e i; year = emptyYear }, inl (refl, x, y))
       go false p e = let r = first-fault entry start n f k e in (refused-whole entry start n f k e, inr (refl, r .0, r .1))
 
+-- ---- the sums filled in
+
+-- a refusal stays as it is: the empty year has its sums
+pub summed-refused : (f : Fault) (k : ℕ) → summed (refused f k) ≡ refused f k
+unfolding computingYear
+summed-refused f k = refl
+
+-- how a list ends whose year is handed back with its sums: refused by its length, refused at a record, or done
+module _ (bad : Bool) (entry : ℕ → Year → Record) (start : Year) (n : ℕ) where
+  pub summed-long : bad ≡ true → refused fault.Length 0 ≡ summed (listed bad entry start n)
+  summed-long p = rw p (sym (summed-refused fault.Length 0))
+
+  pub summed-fault : bad ≡ false → (k : ℕ) (y : Year) (f : Fault) → k < n → gathered entry start k ≡ done y → entry k y ≡ Faulty f → refused f k ≡ summed (listed bad entry start n)
+  summed-fault p k y f l e r = rw p (sym (ap summed (fault-stays entry start k y f n l e r) ∙ summed-refused f k))
+
+  pub summed-done : bad ≡ false → (k : ℕ) (y : Year) → k ≡ n → gathered entry start k ≡ done y → done (withSums y) ≡ summed (listed bad entry start n)
+  summed-done p k y is e = rw (p, sym is) (sym (ap summed e))
+
 -- ---- a year in the making
 
--- all that is asked of a sound year, but that it may have no term yet
+-- all that is asked of a sound year, but that it may have no term yet, and its sums may not be filled in
 pub record Begun (y : Year) : Type 0 where
   pub terms-most : y .terms ≤ 16
   pub courses-most : y .courses ≤ 64
@@ -243,8 +263,15 @@ module _ (y : Year) (c : Course) (b : Begun y) (room : y .courses < 64) where
       sound i h (yes q) = rw (course-added i q) s
       sound i h (no d) = rw (course-before i d) (b .course-sound i (omega (arith, d)))
 
--- with a term it is sound
-pub begun-sound : (y : Year) → Begun y → 1 ≤ y .terms → Sound y
+-- what its sums are counted by
+pub begun-light : (y : Year) → Begun y
+    → ((y .terms ≤ 16) × (y .courses ≤ 64)) × ((i : ℕ) → i < y .courses → (weight y i ≤ 1000) × (list y i < 2 ^ y .terms))
+begun-light y b =
+    ((b .terms-most, b .courses-most), λ i h. (b .course-sound i h .weight-most, b .course-sound i h .list-within))
+
+-- with a term, and with its sums, it is sound
+pub begun-sound : (y : Year) → Begun y → 1 ≤ y .terms → Sound (withSums y)
+unfolding sumsAt fixedCredits openCredits fixedCount openCount
 begun-sound y b some = record {
   terms-least = some;
   terms-most = b .terms-most;
@@ -256,4 +283,19 @@ begun-sound y b some = record {
   course-sound = b .course-sound;
   term-blank = b .term-blank;
   course-blank = b .course-blank;
+  sums-kept = refl;
+}
+
+-- and a sound year is one in the making
+pub sound-begun : (y : Year) → Sound y → Begun y
+sound-begun y s = record {
+  terms-most = s .terms-most;
+  courses-most = s .courses-most;
+  term-length = s .term-length;
+  weight-length = s .weight-length;
+  list-length = s .list-length;
+  term-sound = s .term-sound;
+  course-sound = s .course-sound;
+  term-blank = s .term-blank;
+  course-blank = s .course-blank;
 }

@@ -3,12 +3,13 @@ use Prim.Native.Nat.{ℕ, suc, _+_, _*_, _/_, _%_, _≤_, _<_}
 use mathlib.Core.Bool.{true, false, not, _||_}
 use mathlib.Core.List.{List}
 use mathlib.Core.Logic.{_⊎_, inl, inr}
-use mathlib.Core.Path.{_≡_, refl, sym, ap, _∙_}
+use mathlib.Core.Path.{_≡_, refl, sym, ap, subst, _∙_}
 use native.Mathlib.Omega.{arith}
 use lib.Dec.{eqb, ltb}
 use lib.ListN.{length}
 use borrow.Author.Tests.{ltb-false, eqb-true, eqb-false, not-false}
 use Rattle.theory.proofs.TestLaws.{or-false}
+use Rattle.year.specs.Doors.{withSums}
 use Rattle.year.specs.Sound.{Sound}
 use Rattle.year.specs.declared.Term.{Term}
 use Rattle.year.specs.declared.Course.{Course}
@@ -17,9 +18,9 @@ use Rattle.records.specs.declared.Fault.{Fault}
 use Rattle.records.specs.declared.Fault.the-variants as fault
 use Rattle.records.specs.declared.Reading.the-variants.{Refused}
 use Rattle.records.specs.declared.Received.{Received}
-use Rattle.records.specs.Reading.{OfTerm, OfCourse, blankYear, addTerm, addCourse, done, refused, recordIn, readTo, badLength, readList}
+use Rattle.records.specs.Reading.{OfTerm, OfCourse, blankYear, addTerm, addCourse, done, refused, recordIn, readTo, badLength, summed, readList}
 use Rattle.records.proofs.EntryLaws.{record-term, record-course}
-use Rattle.records.proofs.GatherLaws.{gathered-keeps, FirstFault, listed-done, listed-refused, Begun, begun-blank, begun-term, begun-course, begun-sound}
+use Rattle.records.proofs.GatherLaws.{gathered-keeps, FirstFault, listed-done, listed-refused, summed-refused, Begun, begun-blank, begun-term, begun-course, begun-sound}
 
 -- ---- the first k records give the front of a sound year
 
@@ -64,18 +65,20 @@ length-good n p =
     let whole : n % 16 ≡ 0 = eqb-true _ _ (not-false _ (q .1)) in
     (omega (arith, some), omega arith, omega arith)
 
--- a list that was read: its length, and the year of all its records
-pub list-read : (s : List ℕ) (y : Year) → readList s ≡ done y → (1 ≤ length s / 16) × (length s / 16 * 16 ≡ length s) × (readTo s (length s / 16) ≡ done y)
+-- a list that was read: its length, and the year of all its records, which was given its sums
+pub list-read : (s : List ℕ) (y : Year) → readList s ≡ done y
+    → (1 ≤ length s / 16) × (length s / 16 * 16 ≡ length s) × (z : Year) × (readTo s (length s / 16) ≡ done z) × (withSums z ≡ y)
 unfolding readList
 list-read s y e =
     let d = listed-done (badLength (length s)) (recordIn s) blankYear (length s / 16) (ap (λ (r : Received). r .answer) e) in
     let g = length-good (length s) (d .0) in
-    (g .0, g .1, d .1 ∙ ap (λ (r : Received). done (r .year)) e)
+    (g .0, g .1, _, d .1, ap (λ (r : Received). r .year) e)
 
 -- a list that was refused hands back the empty year
 pub list-refused : (s : List ℕ) (f : Fault) (k : ℕ) → readList s .answer ≡ Refused f k → readList s ≡ refused f k
 unfolding readList
-list-refused s f k e = listed-refused (badLength (length s)) (recordIn s) blankYear (length s / 16) f k e .0
+list-refused s f k e =
+    ap summed (listed-refused (badLength (length s)) (recordIn s) blankYear (length s / 16) f k e .0) ∙ summed-refused f k
 
 -- a list has 80 records at most, and a refusal by length is at place 0
 pub place-few : (s : List ℕ) (f : Fault) (k : ℕ) → readList s .answer ≡ Refused f k → k ≤ 80
@@ -90,5 +93,12 @@ place-few s f k e = go (listed-refused (badLength (length s)) (recordIn s) blank
 pub read-sound : (s : List ℕ) (y : Year) → readList s ≡ done y → Sound y
 read-sound s y e =
     let l = list-read s y e in
-    let f = read-front s (length s / 16) y (l .2) in
-    begun-sound y (f .begun) (f .some-term (l .0))
+    let f = read-front s (length s / 16) (l .2) (l .3) in
+    subst Sound (l .4) (begun-sound (l .2) (f .begun) (f .some-term (l .0)))
+
+-- and has a term or a course for each sixteen bytes
+pub read-length : (s : List ℕ) (y : Year) → readList s ≡ done y → (y .terms + y .courses) * 16 ≡ length s
+read-length s y e =
+    let l = list-read s y e in
+    let f = read-front s (length s / 16) (l .2) (l .3) in
+    subst (λ (z : Year). (z .terms + z .courses) * 16 ≡ length s) (l .4) (ap (λ (n : ℕ). n * 16) (f .count) ∙ l .1)

@@ -139,7 +139,8 @@ module _ (s : List ℕ) (bytes : AllBytes s) where
       )
 
   pub read-write : (y : Year) → readList s ≡ done y → recordsOf y ≡ s
+  unfolding recordsOf
   read-write y e =
       let l = list-read s y e in
-      let b = gathered-keeps (recordIn s) blankYear Back back-start back-term back-course (length s / 16) y (l .2) in
-      b .1 (omega (arith, l .1)) ∙ ap (λ (n : ℕ). take n s) (l .1) ∙ take-length s
+      let b = gathered-keeps (recordIn s) blankYear Back back-start back-term back-course (length s / 16) (l .2) (l .3) in
+      ap recordsOf (sym (l .4)) ∙ b .1 (omega (arith, l .1)) ∙ ap (λ (n : ℕ). take n s) (l .1) ∙ take-length s

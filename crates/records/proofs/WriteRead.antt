@@ -14,12 +14,14 @@ use borrow.Author.Tests.{lt-ltb, le-ltb, le-leb, eq-eqb, ne-eqb}
 use Rattle.theory.proofs.TabLaws.{fill, fill-front, tab-getD}
 use Rattle.theory.specs.Tests.{all}
 use Rattle.year.specs.Year.{termAt, courseAt, weight, list, zeroTerm}
+use Rattle.year.specs.Sums.{fixedCredits, openCredits, fixedCount, openCount, noSums, sumsAt}
+use Rattle.year.specs.Doors.{withSums}
 use Rattle.year.specs.Sound.{TermSound, CourseSound, Sound}
 use Rattle.year.specs.declared.Term.{Term}
 use Rattle.year.specs.declared.Course.{Course}
 use Rattle.year.specs.declared.Year.{Year}
 use Rattle.records.specs.Bytes.{letterAt, byteAt}
-use Rattle.records.specs.Reading.{OfTerm, OfCourse, termByItself, courseBy, termRecord, courseRecord, recordAt, blankYear, done, taken, recordIn, readTo, readList}
+use Rattle.records.specs.Reading.{OfTerm, OfCourse, termByItself, courseBy, termRecord, courseRecord, recordAt, blankYear, done, taken, recordIn, readTo, summed, readList}
 use Rattle.records.specs.Writing.{termBytes, courseBytes, termBlock, courseBlock, joined, recordsOf}
 use Rattle.records.proofs.LayLaws.{length-joined}
 use Rattle.records.proofs.GatherLaws.{gathered-zero, gathered-more}
@@ -123,7 +125,7 @@ course-reads s at n terms c h sound room some =
 
 -- ---- the front of a year
 
--- its first a terms and b courses
+-- its first a terms and b courses, the sums not filled in yet
 abbrev front : Year → ℕ → ℕ → Year
 front y a b = record {
   terms = a;
@@ -131,6 +133,7 @@ front y a b = record {
   term = fill (termAt y) (replicate 16 zeroTerm) a;
   weight = fill (weight y) (replicate 64 0) b;
   list = fill (list y) (replicate 64 0) b;
+  sums = replicate 16 noSums;
 }
 
 -- a list of m entries whose entries from n on are x
@@ -139,12 +142,16 @@ filled l x m n long le past =
     fill-front (λ k. getD l k x) (replicate m x) x m n (length-replicate m x) le (λ k h q. getD-replicate m k x x q ∙ sym (past k h q))
     ∙ tab-getD l x m long
 
-front-all : (y : Year) → Sound y → front y (y .terms) (y .courses) ≡ y
+-- all of it, with its sums, is the year
+front-all : (y : Year) → Sound y → withSums (front y (y .terms) (y .courses)) ≡ y
+unfolding sumsAt fixedCredits openCredits fixedCount openCount
 front-all y s =
     let t = filled (y .term) zeroTerm 16 (y .terms) (s .term-length) (s .terms-most) (s .term-blank) in
     let w = filled (y .weight) 0 64 (y .courses) (s .weight-length) (s .courses-most) (λ i h m. ap (λ (c : Course). c .weight .0) (s .course-blank i h m)) in
     let l = filled (y .list) 0 64 (y .courses) (s .list-length) (s .courses-most) (λ i h m. ap (λ (c : Course). c .list) (s .course-blank i h m)) in
-    λ i. record { terms = y .terms; courses = y .courses; term = t i; weight = w i; list = l i }
+    let kept = sym (s .sums-kept) in
+    (λ i. withSums (record { terms = y .terms; courses = y .courses; term = t i; weight = w i; list = l i; sums = replicate 16 noSums }))
+    ∙ (λ i. record { terms = y .terms; courses = y .courses; term = y .term; weight = y .weight; list = y .list; sums = kept i })
 
 -- ---- the list
 
@@ -176,4 +183,4 @@ module _ (y : Year) (s : Sound y) where
       let l : length (recordsOf y) ≡ n * 16 = records-length y in
       let count : length (recordsOf y) / 16 ≡ n = omega arith in
       simp (ne-eqb (length (recordsOf y)) 0 (λ e. omega (arith, s .terms-least)), le-ltb 1280 (length (recordsOf y)) (records-most y s), eq-eqb (length (recordsOf y) % 16) 0 (omega arith))
-      (ap (readTo (recordsOf y)) count ∙ reads-courses (y .courses) (omega arith) ∙ ap done (front-all y s))
+      (ap (λ (k : ℕ). summed (readTo (recordsOf y) k)) count ∙ ap summed (reads-courses (y .courses) (omega arith)) ∙ ap done (front-all y s))

@@ -4,10 +4,11 @@ use Prim.Native.Nat.{ℕ, _-_, _/_, _%_}
 use mathlib.Core.List.{List, [], _∷_, _++_}
 use mathlib.Core.Path.{_≡_, refl}
 use lib.ListN.{length, replicate}
-use Rattle.theory.specs.Tests.{all}
 use Rattle.year.specs.Year.{courseOf}
 use Rattle.year.specs.Doors.{emptyYear}
-use Rattle.year.specs.Sound.{isSound}
+use Rattle.year.specs.Sums.{noSums}
+use Rattle.year.specs.declared.Year.{Year}
+use Rattle.year.specs.Computing.{computing as computingYear}
 use Rattle.year.specs.Examples.{yearE}
 use Rattle.records.specs.declared.Fault.the-variants as fault
 use Rattle.records.specs.declared.Writing.the-variants.{Done, Unsound, Short}
@@ -48,6 +49,7 @@ bytesE =
     ++ padded (67 ∷ 1 ∷ 0 ∷ 3 ∷ 0 ∷ 3 ∷ [])
     ++ padded (67 ∷ 2 ∷ 0 ∷ 2 ∷ 0 ∷ 3 ∷ [])
 
+-- what is read carries its sums, as year E does
 pub year-e-read : readList bytesE ≡ done yearE
 unfolding computing
 year-e-read = refl
@@ -58,15 +60,32 @@ year-e-records = refl
 
 -- five records want 80 bytes; the byte behind them stays
 pub year-e-written : (writeAnswer yearE 79 ≡ Short) × (writeAnswer yearE 80 ≡ Done) × (written yearE (replicate 81 7) ≡ bytesE ++ 7 ∷ [])
-unfolding writeAnswer written recordsOf joined isSound all
+unfolding writeAnswer written recordsOf joined computingYear
 year-e-written = (refl, refl, refl)
 
 -- a year that is not sound, and a buffer that is short, leave the buffer as it was
 pub unwritten : (writeAnswer blankYear 0 ≡ Unsound)
     × (written blankYear (7 ∷ []) ≡ 7 ∷ [])
     × (written yearE (replicate 79 7) ≡ replicate 79 7)
-unfolding writeAnswer written recordsOf joined isSound all
+unfolding writeAnswer written recordsOf joined computingYear
 unwritten = (refl, refl, refl)
+
+-- year E whose sums were left 0 has the same records, and is refused by 8
+abbrev unsummedE : Year
+unsummedE = record {
+  terms = yearE .terms;
+  courses = yearE .courses;
+  term = yearE .term;
+  weight = yearE .weight;
+  list = yearE .list;
+  sums = replicate 16 noSums;
+}
+
+pub unsummed-unwritten : (recordsOf unsummedE ≡ bytesE)
+    × (writeAnswer unsummedE 80 ≡ Unsound)
+    × (written unsummedE (replicate 81 7) ≡ replicate 81 7)
+unfolding writeAnswer written recordsOf joined computingYear
+unsummed-unwritten = (refl, refl, refl)
 
 -- ---- each limit, at its last good value and one past it
 

@@ -6,7 +6,8 @@ use lib.Dec.{eqb, leb, ltb}
 use lib.ListN.{length, replicate, set}
 use Rattle.theory.specs.Choice.{choose}
 use Rattle.year.specs.Year.{termOf, courseOf, zeroTerm}
-use Rattle.year.specs.Doors.{emptyYear}
+use Rattle.year.specs.Sums.{noSums}
+use Rattle.year.specs.Doors.{emptyYear, withSums}
 use Rattle.year.specs.declared.Term.{Term}
 use Rattle.year.specs.declared.Course.{Course}
 use Rattle.year.specs.declared.Year.{Year}
@@ -91,13 +92,27 @@ recordAt s at terms courses =
 
 -- ---- the list
 
--- no term yet, no course
+-- no term yet, no course; the sums are filled in at the end
 abbrev pub blankYear : Year
-blankYear = record { terms = 0; courses = 0; term = replicate 16 zeroTerm; weight = replicate 64 0; list = replicate 64 0 }
+blankYear = record {
+  terms = 0;
+  courses = 0;
+  term = replicate 16 zeroTerm;
+  weight = replicate 64 0;
+  list = replicate 64 0;
+  sums = replicate 16 noSums;
+}
 
 -- one term more, one course more
 abbrev pub addTerm : Year → Term → Year
-addTerm y t = record { terms = y .terms + 1; courses = y .courses; term = set (y .term) (y .terms) t; weight = y .weight; list = y .list }
+addTerm y t = record {
+  terms = y .terms + 1;
+  courses = y .courses;
+  term = set (y .term) (y .terms) t;
+  weight = y .weight;
+  list = y .list;
+  sums = y .sums;
+}
 
 abbrev pub addCourse : Year → Course → Year
 addCourse y c = record {
@@ -106,6 +121,7 @@ addCourse y c = record {
   term = y .term;
   weight = set (y .weight) (y .courses) (c .weight .0);
   list = set (y .list) (y .courses) (c .list);
+  sums = y .sums;
 }
 
 abbrev pub done : Year → Received
@@ -143,5 +159,9 @@ readTo s = gathered (recordIn s) blankYear
 abbrev pub badLength : ℕ → Bool
 badLength n = eqb n 0 || ltb 1280 n || not (eqb (n % 16) 0)
 
+-- what is handed back, with the sums of its year
+abbrev pub summed : Received → Received
+summed r = record { answer = r .answer; year = withSums (r .year) }
+
 unfoldable pub readList : List ℕ → Received
-readList s = choose (badLength (length s)) (refused fault.Length 0) (readTo s (length s / 16))
+readList s = summed (choose (badLength (length s)) (refused fault.Length 0) (readTo s (length s / 16)))

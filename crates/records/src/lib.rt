@@ -6,6 +6,7 @@ pub mod entries;
 use year::Course;
 use year::Term;
 use year::Year;
+use year::by_hand;
 use year::sound;
 ghost use mathlib.Core.Path.{_≡_};
 ghost use Prim.Native.Nat.{_+_, _*_, _≤_, _<_};
@@ -145,9 +146,10 @@ pub fn read(s: &[u8]) -> Received
             return refused(Fault::Letter, k);
         }
     }
+    let z = by_hand::with_sums(y);
     Received {
         answer: Reading::Done,
-        year: y,
+        year: z,
     }
 }
 

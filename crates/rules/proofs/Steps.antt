@@ -102,7 +102,7 @@ counts-tighter r fails t a b s =
 
 -- a term's own bounds put there again
 with-own : (y : Year) (j : ℕ) → withTerm y j (termAt y j) ≡ y
-with-own y j = λ i. record { terms = y .terms; courses = y .courses; term = set-getD (y .term) j zeroTerm i; weight = y .weight; list = y .list }
+with-own y j = λ i. record { terms = y .terms; courses = y .courses; term = set-getD (y .term) j zeroTerm i; weight = y .weight; list = y .list; sums = y .sums }
 
 module _ (y : Year) (j : ℕ) (o : Outcome) (s : Sound y) (h : j < y .terms) (w : OutcomeTighter (termAt y j) o) where
   at : (k : ℕ) (P : Term → Term → Type 0) → P (termAt y j) (o .term) → (P (termAt y k) (termAt y k)) → P (termAt y k) (termAt (withTerm y j (o .term)) k)

@@ -66,6 +66,11 @@ unfolding all
 all-of zero f h = refl
 all-of (suc n) f h = and-of (all n f) (f n) (all-of n f (λ i l. h i (omega arith))) (h n (le-refl (suc n)))
 
+pub all-same : (n : ℕ) (f g : ℕ → Bool) → ((i : ℕ) → i < n → f i ≡ g i) → all n f ≡ all n g
+unfolding all
+all-same zero f g h = refl
+all-same (suc n) f g h = ap₂ _&&_ (all-same n f g (λ i l. h i (omega arith))) (h n (omega arith))
+
 -- where not all pass, one fails
 pub all-false : (n : ℕ) (f : ℕ → Bool) → all n f ≡ false → (k : ℕ) × (k < n) × (f k ≡ false)
 unfolding all

@@ -7,13 +7,11 @@ use year::Year;
 use year::sound;
 ghost use mathlib.Core.Path.{_≡_};
 ghost use Prim.Native.Nat.{_*_, _-_, _≤_};
-ghost use Rattle.theory.specs.Tab.{tab};
 ghost use Rattle.theory.specs.Tests.{all};
 ghost use Rattle.theory.specs.Sum.{sum};
 ghost use Rattle.theory.specs.Pairs.{square};
 ghost use Rattle.year.specs.Sound.{Sound};
 ghost use Rattle.year.specs.Sums.{fixedCredits};
-ghost use Rattle.year.specs.SumsOf.{sumsAt};
 ghost use Rattle.year.specs.Imbalance.{fits, fitsAt, imbalanceOf};
 
 // The sums are within the term's bounds.
@@ -27,14 +25,13 @@ fn fits(t: Term, s: Sums) -> bool
 }
 
 // What is fixed in each term is within its bounds.
-fn all_fit(y: Year, s: [Sums; Year::TERMS]) -> bool
+fn all_fit(y: Year) -> bool
     requires { ⌜ Sound y ⌝ }
-    requires { ⌜ s ≡ tab 16 (sumsAt y) ⌝ }
     ensures { λ r. ⌜ r ≡ all (y .terms) (fitsAt y) ⌝ }
 {
     let mut good = true;
     for k in 0..y.terms {
-        good = good & fits(y.term[k], s[k]);
+        good = good & fits(y.term[k], y.sums[k]);
     }
     good
 }
@@ -46,15 +43,14 @@ struct Loads {
 }
 
 // What is fixed in the terms of a year.
-fn loads_of(y: Year, s: [Sums; Year::TERMS]) -> Loads
+fn loads_of(y: Year) -> Loads
     requires { ⌜ Sound y ⌝ }
-    requires { ⌜ s ≡ tab 16 (sumsAt y) ⌝ }
     ensures { λ r. ⌜ (r .all .0 ≡ sum (y .terms) (fixedCredits y)) × (r .squares ≡ sum (y .terms) (λ k. square (fixedCredits y k))) ⌝ }
 {
     let mut all = Credits(0);
     let mut squares: u64 = 0;
     for k in 0..y.terms {
-        let x = s[k].fixed.0;
+        let x = y.sums[k].fixed.0;
         all.0 += x;
         squares += x as u64 * x as u64;
     }
@@ -73,7 +69,7 @@ fn difference(terms: usize, l: Loads) -> u64
     terms as u64 * l.squares - all * all
 }
 
-// The imbalance of a sound year as it stands. A course with several terms ends it before anything is summed.
+// The imbalance of a sound year as it stands.
 pub fn imbalance_sound(y: Year) -> Measured
     requires { ⌜ Sound y ⌝ }
     ensures { λ r. ⌜ r ≡ imbalanceOf y ⌝ }
@@ -81,9 +77,8 @@ pub fn imbalance_sound(y: Year) -> Measured
     if !crate::all_placed(y) {
         return Measured::Unsettled;
     }
-    let s = crate::sums_of(y);
-    if all_fit(y, s) {
-        return Measured::Imbalance(difference(y.terms, loads_of(y, s)));
+    if all_fit(y) {
+        return Measured::Imbalance(difference(y.terms, loads_of(y)));
     }
     Measured::Unsettled
 }

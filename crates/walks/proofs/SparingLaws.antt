@@ -15,8 +15,7 @@ use Rattle.theory.proofs.TabLaws.{getD-tab, tab-cong, set-tab}
 use Rattle.theory.proofs.BitLaws.{has-struck}
 use Rattle.year.specs.Year.{zeroTerm, lists, lowCount}
 use Rattle.frame.specs.Bounds.{leastIn}
-use Rattle.year.specs.SumsOf.{sumsAt}
-use Rattle.year.specs.Sums.{fixedCount, openCount}
+use Rattle.year.specs.Sums.{fixedCount, openCount, sumsAt}
 use Rattle.year.specs.declared.Course.{Course}
 use Rattle.year.specs.declared.Sums.{Sums}
 use Rattle.year.specs.declared.Term.{Term}

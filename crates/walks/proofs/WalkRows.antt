@@ -6,8 +6,8 @@ use native.Mathlib.Omega.{arith}
 use lib.ListN.{length, getD, take}
 use Rattle.theory.specs.Tab.{tab}
 use Rattle.year.specs.Year.{termAt}
-use Rattle.year.specs.Sums.{fixedCredits, fixedCount}
-use Rattle.year.specs.SumsOf.{sumsTo, sumsAt, sumsIn}
+use Rattle.year.specs.Sums.{fixedCredits, openCredits, fixedCount, openCount, sumsAt, sumsIn}
+use Rattle.year.specs.SumsOf.{sumsTo}
 use Rattle.year.specs.Sound.{Sound, TermSound}
 use Rattle.year.specs.declared.Sums.{Sums}
 use Rattle.year.specs.declared.Year.{Year}
@@ -17,12 +17,11 @@ use Rattle.rules.specs.Round.{bounded}
 use Rattle.rules.specs.Spares.{spares, walkOf, down, up, rule6, rule7, rule8, rule9}
 use Rattle.rules.specs.declared.Outcome.{Outcome}
 use Rattle.rules.proofs.Steps.{narrows-6, narrows-7, narrows-8, narrows-9}
-use Rattle.frame.specs.State.{held, yearIn, stepIn}
+use Rattle.frame.specs.State.{yearIn, stepIn}
 use Rattle.frame.specs.Bounds.{boundsOver, termIn}
 use Rattle.frame.specs.declared.State.{State}
 use Rattle.frame.specs.declared.Bounds.{Bounds}
-use Rattle.frame.proofs.StateLaws.{sums-held}
-use Rattle.frame.proofs.BoundsOnly.{Tightens, BoundsOnly, sums-same}
+use Rattle.frame.proofs.BoundsOnly.{Tightens, BoundsOnly}
 use Rattle.frame.proofs.BoundsAt.{BoundsAt, at-long, at-sound, at-next}
 use Rattle.orders.specs.Orders.{ordersOf}
 use Rattle.orders.specs.declared.Orders.{Orders}
@@ -83,7 +82,6 @@ module _ (y : Year) (u : List Sums) (e : u ≡ tab 16 (sumsAt y)) (j : ℕ) (h :
 
 pub record Ready (w : List ℕ) (s : State) (o : Orders) : Type 0 where
   pub sound : Sound (yearIn w s)
-  pub is-held : s ≡ held (stepIn w s)
   pub orders-are : o ≡ ordersOf (yearIn w s)
 
 module _ {w : List ℕ} {s : State} {o : Orders} (a : Ready w s o) where
@@ -104,15 +102,15 @@ module _ {w : List ℕ} {s : State} {o : Orders} (a : Ready w s o) where
       → BoundsAt (stepIn w s) c (overTerms (bounded (ruleOf r)) q)
   row r {b} {c} {q} g =
       at-next (stepIn w s) b q g _ (ruleOf r) (tightens r)
-      (λ y j k h l. at-hand r y j k ∙ walk-is y (s .sums) (sums-held w s (a .is-held) ∙ sym (sums-same (yearIn w s) y k)) j h r)
+      (λ y j k h l. at-hand r y j k ∙ walk-is y (s .sums) (sym (k .sums-same) ∙ k .narrower .sound .sums-kept) j h r)
       c
 
   fits : (r : WalkRule) → OrderFits (orderOf r o) (s .courses)
   fits r = subst (λ d. OrderFits (orderOf r d) (s .courses)) (sym (a .orders-are)) (order-fits r (yearIn w s) (a .sound))
 
   sums-are : (k : ℕ) → k < 16 → sumsIn (s .sums) k ≡ sumsTo w (s .list) (s .courses) k
-  unfolding sumsAt
-  sums-are = sums-read (yearIn w s) (s .sums) (sums-held w s (a .is-held))
+  unfolding sumsAt fixedCredits openCredits fixedCount openCount
+  sums-are = sums-read (yearIn w s) (s .sums) (a .sound .sums-kept)
 
   -- what the code of rule r asks of the bounds
   pub walk-asks : (r : WalkRule) {b : Bounds} {q : Step} {t : Tallies} → BoundsAt (stepIn w s) b q → t ≡ talliesOf (s .sums)

@@ -9,7 +9,7 @@ use Rattle.theory.specs.Tab.{tab}
 use Rattle.theory.specs.Bits.{has}
 use Rattle.year.specs.declared.Term.{Term}
 use Rattle.year.specs.declared.Sums.{Sums}
-use Rattle.year.specs.SumsOf.{sumsIn}
+use Rattle.year.specs.Sums.{sumsIn}
 use Rattle.frame.specs.Bounds.{leastIn}
 use Rattle.walks.specs.declared.Tallies.{Tallies}
 

@@ -14,7 +14,7 @@ use Rattle.year.specs.Tight.{creditsWithin, countsWithin}
 use Rattle.year.specs.declared.Term.{Term}
 use Rattle.year.specs.declared.Course.{Course}
 use Rattle.year.specs.declared.Sums.{Sums}
-use Rattle.year.specs.SumsOf.{sumsIn}
+use Rattle.year.specs.Sums.{sumsIn}
 use Rattle.rules.specs.Step.{outcome}
 use Rattle.rules.specs.Spares.{blocked, charged, stops}
 use Rattle.rules.specs.declared.Outcome.{Outcome}

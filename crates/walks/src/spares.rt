@@ -9,7 +9,7 @@ ghost use Rattle.theory.specs.Tests.{any};
 ghost use Rattle.theory.specs.Tab.{tab};
 ghost use Rattle.year.specs.Sound.{TermSound};
 ghost use Rattle.frame.specs.Bounds.{termIn, leastIn};
-ghost use Rattle.year.specs.SumsOf.{sumsIn};
+ghost use Rattle.year.specs.Sums.{sumsIn};
 ghost use Rattle.walks.specs.Sparing.{talliesOf, spareFrom, stuck, chargedAt};
 
 pub fn tallies_of(sums: [Sums; Year::TERMS]) -> Tallies

@@ -19,7 +19,8 @@ ghost use mathlib.Core.Path.{_≡_};
 ghost use mathlib.Core.Bool.{false};
 ghost use Prim.Native.Nat.{ℕ, _+_, _≤_, _<_};
 ghost use lib.ListN.{length, getD, take};
-ghost use Rattle.year.specs.SumsOf.{sumsTo, sumsIn};
+ghost use Rattle.year.specs.Sums.{sumsIn};
+ghost use Rattle.year.specs.SumsOf.{sumsTo};
 ghost use Rattle.year.specs.Sound.{TermSound};
 ghost use Rattle.rules.specs.Spares.{stops};
 ghost use Rattle.frame.specs.Bounds.{boundsOver, termIn};
@@ -44,7 +45,7 @@ fn walk_step(w: Walk, c: Course, j: usize, until: Until) -> Walk
     ensures { λ r. ⌜ r ≡ stepped w c j until ⌝ }
     ensures { λ r. ⌜ (r .credits .0 ≤ w .credits .0 + 1000) × (r .count .0 ≤ w .count .0 + 1) ⌝ }
 {
-    if !totals::is_open(c, j) {
+    if !pairs::is_open(c, j) {
         return w;
     }
     let spare = w.spare;

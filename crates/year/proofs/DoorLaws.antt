@@ -1,7 +1,7 @@
 -- What a year reads after a door was opened, and that it stays sound.
 use Prim.Native.Nat.{ℕ, _-_, _^_, _≤_, _<_}
 use mathlib.Core.Bool.{true}
-use mathlib.Core.Path.{_≡_, ap, _∙_}
+use mathlib.Core.Path.{_≡_, refl, ap, _∙_}
 use native.Mathlib.Omega.{arith}
 use native.Mathlib.Decide.{ℕ-discrete}
 use lib.ListN.{length, length-set}
@@ -10,6 +10,7 @@ use lib.Pow.{pow-pos}
 use Rattle.theory.proofs.BitLaws.{has-le, power-below}
 use Rattle.year.specs.Year.{termAt, courseAt, zeroTerm, courseOf, weight, list, lists}
 use Rattle.year.specs.Doors.{withTerm, withList, placed, struck}
+use Rattle.year.specs.Sums.{fixedCredits, openCredits, fixedCount, openCount, sumsAt}
 use Rattle.year.specs.Sound.{Sound, TermSound, CourseSound}
 use Rattle.year.specs.declared.Term.{Term}
 use Rattle.year.specs.declared.Year.{Year}
@@ -28,6 +29,7 @@ module _ (y : Year) (j : ℕ) (t : Term) (s : Sound y) (h : j < y .terms) (sound
   term k m (no ne) = rw (term-other y j t k ne) (s .term-sound k m)
 
   pub with-term-sound : Sound (withTerm y j t)
+  unfolding sumsAt fixedCredits openCredits fixedCount openCount
   with-term-sound =
       record {
         terms-least = s .terms-least;
@@ -40,6 +42,7 @@ module _ (y : Year) (j : ℕ) (t : Term) (s : Sound y) (h : j < y .terms) (sound
         course-sound = s .course-sound;
         term-blank = λ k m n. term-other y j t k (λ e. absurd (omega arith)) ∙ s .term-blank k m n;
         course-blank = s .course-blank;
+        sums-kept = s .sums-kept;
       }
 
 -- ---- the list of course i replaced
@@ -58,6 +61,7 @@ module _ (y : Year) (i l : ℕ) (s : Sound y) (h : i < y .courses) (some : 1 ≤
   course k m (no ne) = rw (list-other y i l k ne) (s .course-sound k m)
 
   pub with-list-sound : Sound (withList y i l)
+  unfolding sumsAt fixedCredits openCredits fixedCount openCount
   with-list-sound =
       record {
         terms-least = s .terms-least;
@@ -70,6 +74,7 @@ module _ (y : Year) (i l : ℕ) (s : Sound y) (h : i < y .courses) (some : 1 ≤
         course-sound = λ k m. course k m (ℕ-discrete k i);
         term-blank = s .term-blank;
         course-blank = λ k m n. ap (courseOf (weight y k)) (list-other y i l k (λ e. absurd (omega arith))) ∙ s .course-blank k m n;
+        sums-kept = refl;
       }
 
 -- a course placed in a term of the year; a course struck from a term that is not its only one

@@ -3,6 +3,8 @@ pub mod SoundLaws
 pub mod CheckLaws
 pub mod DoorLaws
 pub mod SumLaws
+pub mod ListedLaws
+pub mod ChangeLaws
 pub mod PlanCount
 pub mod OnePlacing
 pub mod ImbalanceLaws

@@ -1,23 +1,25 @@
--- A year in which every course has one term: its one placing, and what that puts into each term.
+-- A year in which every course has one term: its one placing, what that puts into each term, and how the sums show such a year.
 use Prim.Native.Nat.{ℕ, _^_, _<_}
-use mathlib.Core.Bool.{true}
-use mathlib.Core.Path.{_≡_, refl, sym, ap, _∙_}
+use mathlib.Core.Bool.{Bool, true, false, _&&_, not}
+use mathlib.Core.Path.{_≡_, refl, sym, ap, ap₂, _∙_}
 use native.Mathlib.Omega.{arith}
 use native.Mathlib.Decide.{ℕ-discrete}
 use lib.Dec.{eqb}
 use borrow.Author.Tests.{eqb-true, eq-eqb, ne-eqb}
 use Rattle.theory.specs.Bits.{has}
 use Rattle.theory.specs.Sum.{pick, sum}
-use Rattle.theory.proofs.BitLaws.{has-power, has-below, power-eqb}
+use Rattle.theory.proofs.BitLaws.{has-power, has-below, has-some, power-eqb}
 use Rattle.theory.proofs.LoadLaws.{load, loads-total}
-use Rattle.theory.proofs.SumLaws.{sum-cong, sum-single, pick-ne}
-use Rattle.theory.proofs.TestLaws.{any-true, any-of, all-at, all-of}
+use Rattle.theory.proofs.SumLaws.{sum-cong, sum-zero, sum-single, pick-ne}
+use Rattle.theory.proofs.TestLaws.{any-true, any-of, all-at, all-of, same-tests}
 use Rattle.year.specs.Year.{courseAt, weight, list, lists, isFixed}
-use Rattle.year.specs.Sums.{fixedCredits, fixedCount, allCredits, isPlaced, placedAt, allPlaced}
+use Rattle.year.specs.Sums.{openOne, fixedCredits, fixedCount, openCount, allCredits, sumsIn, isPlaced, placedAt, allPlaced}
+use Rattle.year.specs.SumsOf.{noneOpen}
 use Rattle.year.specs.Plans.{Placing, creditsIn, countIn, Plan, PlacedBy, theTerm, thePlacing}
 use Rattle.year.specs.Sound.{Sound}
 use Rattle.year.specs.declared.Course.{Course}
 use Rattle.year.specs.declared.Year.{Year}
+use Rattle.year.proofs.SumLaws.{none-open, free-read}
 
 -- ---- the sums of such a year are what p puts into each term
 
@@ -51,6 +53,14 @@ module _ (y : Year) (p : Placing) (h : PlacedBy y p) (k : ℕ) where
   pub count-fixed : fixedCount y k ≡ countIn y p k
   unfolding fixedCount
   count-fixed = fixed-sum (λ i. 1)
+
+  count-open : openCount y k ≡ 0
+  unfolding openCount
+  count-open = sum-zero (y .courses) (openOne (y .weight) (y .list) k) (λ i l. ap (λ b. pick b 1) (ap₂ (λ a b. a && not b) (listed-there i l) (fixed-there i l) ∙ not-both (eqb (p i) k)))
+    where
+      not-both : (b : Bool) → b && not b ≡ false
+      not-both true = refl
+      not-both false = refl
 
 -- ---- it stands within the terms and the lists, and no other plan does
 
@@ -89,6 +99,38 @@ all-placed y p s h =
     (λ i l.
     let fixed : isFixed (courseAt y i) (p i) ≡ true = eq-eqb (list y i) (2 ^ p i) (h i l) in
     any-of 16 (isFixed (courseAt y i)) (p i) (omega (arith, s, placed-within y p h s i l)) fixed)
+
+-- ---- every course has one term where the sums that the year carries say that none is open in any
+
+module _ (y : Year) (s : Sound y) where
+  -- a course is fixed in a term that it lists where it is not open there, and it lists one
+  settled : ((k : ℕ) → k < y .terms → openCount y k ≡ 0) → allPlaced y ≡ true
+  unfolding allPlaced isPlaced openCount
+  settled none =
+      all-of (y .courses) (placedAt y)
+      (λ i l.
+      let c = s .course-sound i l in
+      let r = has-some (y .terms) (list y i) (c .list-some) (c .list-within) in
+      let k : ℕ = r .0 in
+      any-of 16 (isFixed (courseAt y i)) k (omega (arith, s, r .1))
+      (fixed-else (lists (courseAt y i) k) (isFixed (courseAt y i) k) (r .2) (none-open (y .weight) (y .list) k (y .courses) (none k (r .1)) i l)))
+    where
+      fixed-else : (a b : Bool) → a ≡ true → a && not b ≡ false → b ≡ true
+      fixed-else a true e d = refl
+      fixed-else true false e d = sym d
+      fixed-else false false e d = e
+
+  pub none-open-is : noneOpen (y .terms) (y .sums) ≡ allPlaced y
+  none-open-is =
+      same-tests (noneOpen (y .terms) (y .sums)) (allPlaced y)
+      (λ e. settled (λ k l. sym (read k l) ∙ eqb-true (sumsIn (y .sums) k .free .0) 0 (all-at (y .terms) none e k l)))
+      (λ e. all-of (y .terms) none (λ k l. eq-eqb (sumsIn (y .sums) k .free .0) 0 (read k l ∙ count-open y (thePlacing y) (placed-by y e) k)))
+    where
+      none : ℕ → Bool
+      none k = eqb (sumsIn (y .sums) k .free .0) 0
+
+      read : (k : ℕ) → k < y .terms → sumsIn (y .sums) k .free .0 ≡ openCount y k
+      read k l = free-read y (y .sums) (s .sums-kept) k (omega (arith, s))
 
 -- ---- the terms together have all credits
 

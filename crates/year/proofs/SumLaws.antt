@@ -1,17 +1,16 @@
--- The sums of a term with one course more, and their bounds in a sound year.
+-- The bounds of the sums of a term, and an array that holds them.
 use Prim.Native.Nat.{ℕ, _+_, _*_, _≤_, _<_}
 use mathlib.Core.Bool.{Bool, true, false, _&&_, not}
-use mathlib.Core.Path.{_≡_, refl, ap}
+use mathlib.Core.Path.{_≡_, refl, ap, _∙_}
 use native.Mathlib.Omega.{arith}
 use mathlib.Core.List.{List}
-use lib.ListN.{getD}
+use lib.ListN.{length, getD}
 use Rattle.theory.specs.Sum.{pick, sum}
-use Rattle.theory.proofs.SumLaws.{sum-more, sum-mono, sum-add, sum-le-mul, sum-term-le}
+use Rattle.theory.proofs.SumLaws.{sum-mono, sum-add, sum-le-mul, sum-term-le}
 use Rattle.theory.specs.Tab.{tab}
-use Rattle.theory.proofs.TabLaws.{getD-tab}
+use Rattle.theory.proofs.TabLaws.{length-tab, getD-tab}
 use Rattle.year.specs.Year.{courseIn, isFixed, isOpen, lists}
-use Rattle.year.specs.Sums.{fixedWeight, openWeight, fixedOne, openOne, fixedCredits, openCredits, fixedCount, openCount, allCredits}
-use Rattle.year.specs.SumsOf.{sumsTo, sumsAt, sumsWith, noSums}
+use Rattle.year.specs.Sums.{fixedWeight, openWeight, fixedOne, openOne, fixedCredits, openCredits, fixedCount, openCount, allCredits, noSums, sumsAt}
 use Rattle.year.specs.Sound.{Sound}
 use Rattle.year.specs.declared.Sums.{Sums}
 use Rattle.year.specs.declared.Year.{Year}
@@ -56,28 +55,6 @@ module _ (w l : List ℕ) where
       go true p q = absurd (omega arith)
       go false p q = p
 
-  -- one turn of the loop over the courses
-  pub sums-more : (j n : ℕ) → sumsTo w l (n + 1) j ≡ sumsWith (sumsTo w l n j) (courseIn w l n) j
-  sums-more j n =
-      let f = sum-more n (fixedWeight w l j) in
-      let p : sum (n + 1) (fixedWeight w l j) + sum (n + 1) (openWeight w l j)
-      ≡ sum n (fixedWeight w l j) + sum n (openWeight w l j) + fixedWeight w l j n + openWeight w l j n = omega (arith, f, sum-more n (openWeight w l j)) in
-      let c = sum-more n (fixedOne w l j) in
-      let o = sum-more n (openOne w l j) in
-      λ i. record { fixed = record { 0 = f i }; possible = record { 0 = p i }; placed = record { 0 = c i }; free = record { 0 = o i } }
-
-  -- and no sum passes its size on the way
-  pub sums-fit : (j n : ℕ) (s : Sums) → n < 64 → ((i : ℕ) → i ≤ n → weightIn w i ≤ 1000) → s ≡ sumsTo w l n j
-      → (weightIn w n ≤ 1000) × (s .possible .0 ≤ 64000) × (s .placed .0 ≤ 64) × (s .free .0 ≤ 64) × (s .fixed .0 ≤ s .possible .0)
-  sums-fit j n s h t e =
-      let f : s .fixed .0 ≡ sum n (fixedWeight w l j) = ap (λ (z : Sums). z .fixed .0) e in
-      let p : s .possible .0 ≡ sum n (fixedWeight w l j) + sum n (openWeight w l j) = ap (λ (z : Sums). z .possible .0) e in
-      let c : s .placed .0 ≡ sum n (fixedOne w l j) = ap (λ (z : Sums). z .placed .0) e in
-      let o : s .free .0 ≡ sum n (openOne w l j) = ap (λ (z : Sums). z .free .0) e in
-      let credits : s .possible .0 ≤ 1000 * n = omega (arith, weights-to n (λ i m. t i (omega arith)), possible-to j n) in
-      let counts : s .placed .0 + s .free .0 ≤ n = omega (arith, counts-to j n) in
-      (t n (omega arith), omega arith, omega arith, omega arith, omega arith)
-
 -- ---- over the year
 
 pub all-credits-le : (y : Year) → Sound y → allCredits y ≤ 1000 * y .courses
@@ -99,9 +76,16 @@ module _ (y : Year) (s : List Sums) (e : s ≡ tab 16 (sumsAt y)) (k : ℕ) (h :
   sums-read = rw e (getD-tab 16 (sumsAt y) noSums k h)
 
   pub fixed-read : getD s k noSums .fixed .0 ≡ fixedCredits y k
-  unfolding sumsAt fixedCredits
+  unfolding sumsAt
   fixed-read = ap (λ (z : Sums). z .fixed .0) sums-read
 
   pub placed-read : getD s k noSums .placed .0 ≡ fixedCount y k
-  unfolding sumsAt fixedCount
+  unfolding sumsAt
   placed-read = ap (λ (z : Sums). z .placed .0) sums-read
+
+  pub free-read : getD s k noSums .free .0 ≡ openCount y k
+  unfolding sumsAt
+  free-read = ap (λ (z : Sums). z .free .0) sums-read
+
+pub sums-long : (y : Year) → Sound y → length (y .sums) ≡ 16
+sums-long y s = ap length (s .sums-kept) ∙ length-tab 16 (sumsAt y)

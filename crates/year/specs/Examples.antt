@@ -3,21 +3,24 @@ use Prim.Native.Nat.{ℕ, suc, _*_, _^_}
 use mathlib.Core.Bool.{true, false}
 use mathlib.Core.List.{List, [], _∷_, _++_}
 use mathlib.Core.Path.{_≡_, refl}
-use lib.ListN.{length, replicate, take}
+use lib.ListN.{length, replicate, take, set}
 use Rattle.theory.specs.Sum.{sum}
 use Rattle.theory.specs.Pairs.{square}
 use Rattle.theory.specs.Tests.{all, any}
 use Rattle.theory.specs.Order.{keep}
 use Rattle.year.specs.Year.{termOf, courseOf, zeroTerm, zeroCourse, courseAt}
-use Rattle.year.specs.Doors.{emptyYear, byHand, placed, withList, withTerm}
+use Rattle.year.specs.Doors.{emptyYear, withSums, placed, struck, withList, withTerm}
+use Rattle.year.specs.ByHand.{summedOf, unsummed, byHand}
+use Rattle.year.specs.Computing.{computing}
 use Rattle.year.specs.Sound.{isSound}
-use Rattle.year.specs.Sums.{fixedCredits, fixedCount, allCredits, isPlaced, allPlaced}
+use Rattle.year.specs.Sums.{sumsOf, noSums, sumsIn, allCredits, isPlaced, allPlaced}
 use Rattle.year.specs.Tight.{creditsWithin, countsWithin}
 use Rattle.year.specs.Narrow.{answered, placeOf, barOf, raiseLowCreditsOf, lowerHighCreditsOf, raiseLowCountOf, lowerHighCountOf}
 use Rattle.year.specs.Imbalance.{onePlan, imbalanceOf}
 use Rattle.year.specs.Plans.{isPlan, behind, rows, plansOf, countOfPlans}
 use Rattle.year.specs.declared.Term.{Term}
 use Rattle.year.specs.declared.Course.{Course}
+use Rattle.year.specs.declared.Sums.{Sums}
 use Rattle.year.specs.declared.Year.{Year}
 use Rattle.year.specs.declared.Narrowing.the-variants.{Done, Unsound, Missing, Outside, Crossing}
 use Rattle.year.specs.declared.Measured.the-variants as measured
@@ -28,7 +31,7 @@ abbrev padded : {A : Type 0} → ℕ → A → List A → List A
 padded n a l = take n (l ++ replicate n a)
 
 abbrev pub yearOf : List Term → List Course → Year
-yearOf ts cs = byHand (length ts) (length cs) (padded 16 zeroTerm ts) (padded 64 zeroCourse cs)
+yearOf ts cs = withSums (unsummed (length ts) (length cs) (padded 16 zeroTerm ts) (padded 64 zeroCourse cs))
 
 -- a term with the widest bounds but for its low credits and its low count
 abbrev pub atLeast : ℕ → ℕ → Term
@@ -56,7 +59,7 @@ foreignE = withList yearE 2 7
 -- a year of n terms and m courses with every entry filled: each course of weight w lists all sixteen terms,
 -- each term has the bounds 0-v and 0-k
 abbrev pub fullYear : ℕ → ℕ → ℕ → ℕ → ℕ → Year
-fullYear n m w v k = byHand n m (replicate 16 (termOf 0 v 0 k)) (replicate 64 (courseOf w 65535))
+fullYear n m w v k = withSums (unsummed n m (replicate 16 (termOf 0 v 0 k)) (replicate 64 (courseOf w 65535)))
 
 -- ---- years by hand, and their courses
 
@@ -72,147 +75,227 @@ courses-of-e = (refl, refl, refl, refl, refl, refl)
 -- ---- soundness
 
 pub year-e-sound : isSound yearE ≡ true
-unfolding isSound all
+unfolding computing
 year-e-sound = refl
 
 pub empty-sound : isSound emptyYear ≡ true
-unfolding isSound all
+unfolding computing
 empty-sound = refl
 
 -- the largest year is sound, and one more of anything is not
 pub largest-sound : isSound (fullYear 16 64 1000 64000 64) ≡ true
-unfolding isSound all
+unfolding computing
 largest-sound = refl
 
 pub terms-past : isSound (fullYear 17 64 1000 64000 64) ≡ false
-unfolding isSound all
+unfolding computing
 terms-past = refl
 
 pub courses-past : isSound (fullYear 16 65 1000 64000 64) ≡ false
-unfolding isSound all
+unfolding computing
 courses-past = refl
 
 pub weight-past : isSound (fullYear 16 64 1001 64000 64) ≡ false
-unfolding isSound all
+unfolding computing
 weight-past = refl
 
 pub credits-past : isSound (fullYear 16 64 1000 64001 64) ≡ false
-unfolding isSound all
+unfolding computing
 credits-past = refl
 
 pub count-past : isSound (fullYear 16 64 1000 64000 65) ≡ false
-unfolding isSound all
+unfolding computing
 count-past = refl
 
 -- no term, and a course of no weight
 pub no-term : isSound (byHand 0 0 (replicate 16 zeroTerm) (replicate 64 zeroCourse)) ≡ false
-unfolding isSound all
+unfolding computing
 no-term = refl
 
 pub no-weight : isSound (fullYear 16 64 0 64000 64) ≡ false
-unfolding isSound all
+unfolding computing
 no-weight = refl
 
 -- an entry past the last that is not zero, of a term and of a course
 pub past-the-last : (isSound (withTerm yearE 2 (termOf 0 1 0 0)) ≡ false) × (isSound (withList yearE 3 1) ≡ false)
-unfolding isSound all
+unfolding computing
 past-the-last = (refl, refl)
 
 -- a weight that has no list, past the last course and of a course
 pub weight-alone : (isSound (byHand 2 2 (yearE .term) (padded 64 zeroCourse (courseOf 4 3 ∷ courseOf 3 3 ∷ courseOf 2 0 ∷ []))) ≡ false)
     × (isSound (byHand 2 3 (yearE .term) (padded 64 zeroCourse (courseOf 4 3 ∷ courseOf 3 3 ∷ courseOf 2 0 ∷ []))) ≡ false)
-unfolding isSound all
+unfolding computing
 weight-alone = (refl, refl)
 
 -- a low bound up to its high bound, and past it
 pub bounds-ordered : (isSound (withTerm yearE 0 (termOf 4 4 3 3)) ≡ true)
     × (isSound (withTerm yearE 0 (termOf 5 4 3 3)) ≡ false)
     × (isSound (withTerm yearE 0 (termOf 4 4 4 3)) ≡ false)
-unfolding isSound all
+unfolding computing
 bounds-ordered = (refl, refl, refl)
+
+-- ---- the sums that a year carries
+
+-- the same year with other sums of entry j
+abbrev pub withOther : Year → ℕ → Sums → Year
+withOther y j s = record {
+  terms = y .terms;
+  courses = y .courses;
+  term = y .term;
+  weight = y .weight;
+  list = y .list;
+  sums = set (y .sums) j s;
+}
+
+-- those of two terms and of the entry behind them
+abbrev sumsOfThree : Year → Sums × (Sums × Sums)
+sumsOfThree y = (sumsIn (y .sums) 0, (sumsIn (y .sums) 1, sumsIn (y .sums) 2))
+
+-- year E as it is, with course 0 in term 0 alone, and with course 0 struck from term 0, which leaves term 1 alone
+pub sums-of-e : (sumsOfThree yearE ≡ (sumsOf 0 9 0 3, (sumsOf 0 9 0 3, noSums)))
+    × (sumsOfThree (placed yearE 0 0) ≡ (sumsOf 4 9 1 2, (sumsOf 0 5 0 2, noSums)))
+    × (sumsOfThree (struck yearE 0 0) ≡ (sumsOf 0 5 0 2, (sumsOf 4 9 1 2, noSums)))
+unfolding computing
+sums-of-e = (refl, refl, refl)
+
+-- one course of 5 that lists three terms: struck from one of them it is open in the other two as before; placed in one it is gone from both
+abbrev inThree : Year
+inThree = yearOf (atLeast 0 0 ∷ atLeast 0 0 ∷ atLeast 0 0 ∷ atLeast 0 0 ∷ []) (courseOf 5 7 ∷ [])
+
+pub sums-of-three : (sumsOfThree inThree ≡ (sumsOf 0 5 0 1, (sumsOf 0 5 0 1, sumsOf 0 5 0 1)))
+    × (sumsOfThree (struck inThree 0 1) ≡ (sumsOf 0 5 0 1, (noSums, sumsOf 0 5 0 1)))
+    × (sumsOfThree (placed inThree 0 1) ≡ (noSums, (sumsOf 5 5 1 0, noSums)))
+    × (sumsIn (struck inThree 0 1 .sums) 3 ≡ noSums)
+unfolding computing
+sums-of-three = (refl, refl, refl, refl)
+
+-- each of the four sums one too high, and each that can be one too low, in a term; two that together are right
+pub sums-disagree : (isSound (withOther yearE 1 (sumsOf 0 9 0 3)) ≡ true)
+    × (isSound (withOther yearE 1 (sumsOf 1 9 0 3)) ≡ false)
+    × (isSound (withOther yearE 1 (sumsOf 0 10 0 3)) ≡ false)
+    × (isSound (withOther yearE 1 (sumsOf 0 8 0 3)) ≡ false)
+    × (isSound (withOther yearE 1 (sumsOf 0 9 1 3)) ≡ false)
+    × (isSound (withOther yearE 1 (sumsOf 0 9 0 4)) ≡ false)
+    × (isSound (withOther yearE 1 (sumsOf 0 9 0 2)) ≡ false)
+    × (isSound (withOther yearE 1 (sumsOf 0 9 1 2)) ≡ false)
+unfolding computing
+sums-disagree = (refl, refl, refl, refl, refl, refl, refl, refl)
+
+-- and past the last term, next to it and in the last entry
+pub sums-past : (isSound (withOther yearE 2 (sumsOf 1 0 0 0)) ≡ false)
+    × (isSound (withOther yearE 2 (sumsOf 0 1 0 0)) ≡ false)
+    × (isSound (withOther yearE 15 (sumsOf 0 0 1 0)) ≡ false)
+    × (isSound (withOther yearE 15 (sumsOf 0 0 0 1)) ≡ false)
+    × (isSound (withOther yearE 15 noSums) ≡ true)
+unfolding computing
+sums-past = (refl, refl, refl, refl, refl)
+
+-- a year whose sums were left 0 is not sound; filled in they are as above. Other sums than these are mended, and what is unsound in
+-- another way comes back as it was given
+pub sums-filled-in : (isSound (unsummed 2 3 (yearE .term) (padded 64 zeroCourse (courseOf 4 3 ∷ courseOf 3 3 ∷ courseOf 2 3 ∷ []))) ≡ false)
+    × (byHand 2 3 (yearE .term) (padded 64 zeroCourse (courseOf 4 3 ∷ courseOf 3 3 ∷ courseOf 2 3 ∷ [])) ≡ yearE)
+    × (summedOf (withOther yearE 1 (sumsOf 9 9 9 9)) ≡ yearE)
+    × (summedOf yearE ≡ yearE)
+    × (summedOf foreignE ≡ foreignE)
+    × (summedOf (withOther foreignE 15 (sumsOf 0 0 0 1)) ≡ withOther foreignE 15 (sumsOf 0 0 0 1))
+unfolding computing
+sums-filled-in = (refl, refl, refl, refl, refl, refl)
 
 -- ---- placing and barring
 
 pub places : placeOf yearE 0 0 ≡ answered Done firstPlaced
-unfolding placeOf isSound all
+unfolding placeOf computing
 places = refl
 
 pub bars : barOf yearE 0 0 ≡ answered Done (withList yearE 0 2)
-unfolding barOf isSound all
+unfolding barOf computing
 bars = refl
 
 -- a last term is not barred; a term that is not listed is, and the year is as it was
 pub bars-no-last : barOf firstPlaced 0 0 ≡ answered Crossing firstPlaced
-unfolding barOf isSound all
+unfolding barOf computing
 bars-no-last = refl
 
 pub bars-unlisted : barOf firstPlaced 0 1 ≡ answered Done firstPlaced
-unfolding barOf isSound all
+unfolding barOf computing
 bars-unlisted = refl
 
 pub places-no-unlisted : placeOf firstPlaced 0 1 ≡ answered Crossing firstPlaced
-unfolding placeOf isSound all
+unfolding placeOf computing
 places-no-unlisted = refl
 
 pub no-such-course : placeOf yearE 3 0 ≡ answered Missing yearE
-unfolding placeOf isSound all
+unfolding placeOf computing
 no-such-course = refl
 
 pub no-such-term : barOf yearE 0 2 ≡ answered Missing yearE
-unfolding barOf isSound all
+unfolding barOf computing
 no-such-term = refl
+
+-- a year with a sum that disagrees is refused by every narrowing
+abbrev pub offE : Year
+offE = withOther yearE 1 (sumsOf 0 9 0 2)
+
+pub sums-refused : (placeOf offE 0 0 ≡ answered Unsound offE)
+    × (barOf offE 0 0 ≡ answered Unsound offE)
+    × (raiseLowCreditsOf offE 0 1 ≡ answered Unsound offE)
+    × (lowerHighCreditsOf offE 0 1 ≡ answered Unsound offE)
+    × (raiseLowCountOf offE 0 1 ≡ answered Unsound offE)
+    × (lowerHighCountOf offE 0 1 ≡ answered Unsound offE)
+unfolding placeOf barOf raiseLowCreditsOf lowerHighCreditsOf raiseLowCountOf lowerHighCountOf computing
+sums-refused = (refl, refl, refl, refl, refl, refl)
 
 -- an unsound year is refused first
 pub unsound-first : placeOf foreignE 3 0 ≡ answered Unsound foreignE
-unfolding placeOf isSound all
+unfolding placeOf computing
 unsound-first = refl
 
 -- ---- bounds
 
 pub raises : raiseLowCreditsOf yearE 0 4 ≡ answered Done (withTerm yearE 0 (termOf 4 4 0 3))
-unfolding raiseLowCreditsOf creditsWithin isSound all
+unfolding raiseLowCreditsOf creditsWithin computing
 raises = refl
 
 pub lowers : lowerHighCountOf yearE 1 0 ≡ answered Done (withTerm yearE 1 (termOf 0 6 0 0))
-unfolding lowerHighCountOf countsWithin isSound all
+unfolding lowerHighCountOf countsWithin computing
 lowers = refl
 
 -- no tighter: done, and nothing altered
 pub raises-nothing : raiseLowCountOf yearE 0 0 ≡ answered Done yearE
-unfolding raiseLowCountOf countsWithin isSound all
+unfolding raiseLowCountOf countsWithin computing
 raises-nothing = refl
 
 pub lowers-nothing : lowerHighCreditsOf yearE 0 4 ≡ answered Done yearE
-unfolding lowerHighCreditsOf creditsWithin isSound all
+unfolding lowerHighCreditsOf creditsWithin computing
 lowers-nothing = refl
 
 -- a low bound above its high bound
 pub crosses : raiseLowCreditsOf yearE 0 5 ≡ answered Crossing yearE
-unfolding raiseLowCreditsOf creditsWithin isSound all
+unfolding raiseLowCreditsOf creditsWithin computing
 crosses = refl
 
 -- the largest bound of the sizes, which crosses or is no tighter here, and one past it
 pub largest-credits : (raiseLowCreditsOf yearE 0 64000 ≡ answered Crossing yearE)
     × (lowerHighCreditsOf yearE 0 64000 ≡ answered Done yearE)
-unfolding raiseLowCreditsOf lowerHighCreditsOf creditsWithin isSound all
+unfolding raiseLowCreditsOf lowerHighCreditsOf creditsWithin computing
 largest-credits = (refl, refl)
 
 pub outside-credits : (raiseLowCreditsOf yearE 0 64001 ≡ answered Outside yearE)
     × (lowerHighCreditsOf yearE 0 64001 ≡ answered Outside yearE)
-unfolding raiseLowCreditsOf lowerHighCreditsOf creditsWithin isSound all
+unfolding raiseLowCreditsOf lowerHighCreditsOf creditsWithin computing
 outside-credits = (refl, refl)
 
 pub largest-count : (raiseLowCountOf yearE 0 64 ≡ answered Crossing yearE) × (lowerHighCountOf yearE 0 64 ≡ answered Done yearE)
-unfolding raiseLowCountOf lowerHighCountOf countsWithin isSound all
+unfolding raiseLowCountOf lowerHighCountOf countsWithin computing
 largest-count = (refl, refl)
 
 pub outside-count : (raiseLowCountOf yearE 0 65 ≡ answered Outside yearE) × (lowerHighCountOf yearE 0 65 ≡ answered Outside yearE)
-unfolding raiseLowCountOf lowerHighCountOf countsWithin isSound all
+unfolding raiseLowCountOf lowerHighCountOf countsWithin computing
 outside-count = (refl, refl)
 
 -- of a term that the year lacks, the term is refused first
 pub missing-first : raiseLowCountOf yearE 2 65 ≡ answered Missing yearE
-unfolding raiseLowCountOf countsWithin isSound all
+unfolding raiseLowCountOf countsWithin computing
 missing-first = refl
 
 -- ---- imbalance
@@ -241,7 +324,7 @@ pub record Imbalances : Type 0 where
   pub all-in-one : imbalanceOf heaped ≡ measured.Imbalance (15 * square 64000)
 
 pub imbalances : Imbalances
-unfolding imbalanceOf isSound onePlan allPlaced isPlaced fixedCredits fixedCount allCredits sum all any
+unfolding imbalanceOf onePlan allPlaced isPlaced allCredits any computing
 imbalances = record {
   four-and-five = refl;
   three-and-six = refl;
@@ -255,16 +338,16 @@ imbalances = record {
 
 -- courses with several terms, and one placing that is no plan, of courses and of none
 pub unsettled : imbalanceOf yearE ≡ measured.Unsettled
-unfolding imbalanceOf isSound onePlan allPlaced isPlaced fixedCredits fixedCount sum all any
+unfolding imbalanceOf onePlan allPlaced isPlaced any computing
 unsettled = refl
 
 pub no-plan : (imbalanceOf crowdedE ≡ measured.Unsettled) × (imbalanceOf (yearOf (atLeast 1 0 ∷ []) []) ≡ measured.Unsettled)
-unfolding imbalanceOf isSound onePlan allPlaced isPlaced fixedCredits fixedCount sum all any
+unfolding imbalanceOf onePlan allPlaced isPlaced any computing
 no-plan = (refl, refl)
 
-pub imbalance-unsound : imbalanceOf foreignE ≡ measured.Unsound
-unfolding imbalanceOf isSound all
-imbalance-unsound = refl
+pub imbalance-unsound : (imbalanceOf foreignE ≡ measured.Unsound) × (imbalanceOf offE ≡ measured.Unsound)
+unfolding imbalanceOf computing
+imbalance-unsound = (refl, refl)
 
 -- ---- plans
 

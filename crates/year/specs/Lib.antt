@@ -1,12 +1,14 @@
--- To be believed: what a year means. Read these first, in this order. SumsOf alone is inner.
+-- To be believed: what a year means. Read these first, in this order. Computing and SumsOf alone are inner.
 pub mod Year
-pub mod Sound
 pub mod Sums
+pub mod Sound
 pub mod Doors
+pub mod ByHand
 pub mod Tight
 pub mod Narrow
 pub mod Imbalance
 pub mod Plans
 pub mod Numbers
+pub mod Computing
 pub mod Examples
 pub mod SumsOf

@@ -5,10 +5,13 @@ use mathlib.Core.Path.{_≡_}
 use lib.ListN.{length}
 use lib.Dec.{eqb, leb, ltb}
 use Rattle.theory.specs.Choice.{choose}
+use Rattle.theory.specs.Tab.{tab}
 use Rattle.theory.specs.Tests.{all}
 use Rattle.year.specs.Year.{termAt, courseAt, zeroTerm, zeroCourse}
 use Rattle.year.specs.declared.Term.{Term}
+use Rattle.year.specs.Sums.{sumsAt, sumsIn}
 use Rattle.year.specs.declared.Course.{Course}
+use Rattle.year.specs.declared.Sums.{Sums}
 use Rattle.year.specs.declared.Year.{Year}
 
 -- ---- the test
@@ -35,13 +38,28 @@ termGood y j = choose (ltb j (y .terms)) (termSound (termAt y j)) (termBlank (te
 abbrev pub courseGood : Year → ℕ → Bool
 courseGood y i = choose (ltb i (y .courses)) (courseSound (courseAt y i) (y .terms)) (courseBlank (courseAt y i))
 
--- the three arrays have their lengths, as each array of the program has
+-- the arrays of terms, weights and lists have their lengths, as each array of the program has
 abbrev pub shaped : Year → Bool
 shaped y = eqb (length (y .term)) 16 && eqb (length (y .weight)) 64 && eqb (length (y .list)) 64
 
-unfoldable pub isSound : Year → Bool
-isSound y =
+-- all but the sums
+unfoldable pub soundButSums : Year → Bool
+soundButSums y =
     leb 1 (y .terms) && leb (y .terms) 16 && leb (y .courses) 64 && shaped y && all 16 (termGood y) && all 64 (courseGood y)
+
+abbrev pub sumsSame : Sums → Sums → Bool
+sumsSame a b =
+    eqb (a .fixed .0) (b .fixed .0)
+    && eqb (a .possible .0) (b .possible .0)
+    && eqb (a .placed .0) (b .placed .0)
+    && eqb (a .free .0) (b .free .0)
+
+-- the four sums that the year carries for entry j are those over its lists; past the last term these are 0
+abbrev pub sumsGood : Year → ℕ → Bool
+sumsGood y j = sumsSame (sumsIn (y .sums) j) (sumsAt y j)
+
+unfoldable pub isSound : Year → Bool
+isSound y = soundButSums y && eqb (length (y .sums)) 16 && all 16 (sumsGood y)
 
 -- ---- the facts
 
@@ -68,3 +86,4 @@ pub record Sound (y : Year) : Type 0 where
   pub course-sound : (i : ℕ) → i < y .courses → CourseSound (courseAt y i) (y .terms)
   pub term-blank : (j : ℕ) → y .terms ≤ j → j < 16 → termAt y j ≡ zeroTerm
   pub course-blank : (i : ℕ) → y .courses ≤ i → i < 64 → courseAt y i ≡ zeroCourse
+  pub sums-kept : y .sums ≡ tab 16 (sumsAt y)

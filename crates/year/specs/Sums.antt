@@ -1,4 +1,5 @@
--- The sums of a term: p, P, the number fixed, the number open; and the sums of the year: S and n.
+-- The sums of a term, which a year carries for each of its terms: p, P, the number fixed, the number open; and the sums of the year:
+-- S and n.
 use Prim.Native.Nat.{ℕ, _+_}
 use mathlib.Core.Bool.{Bool}
 use mathlib.Core.List.{List}
@@ -7,6 +8,7 @@ use Rattle.theory.specs.Sum.{pick, sum}
 use Rattle.theory.specs.Tests.{any, all}
 use Rattle.year.specs.Year.{courseIn, courseAt, weight, isFixed, isOpen}
 use Rattle.year.specs.declared.Course.{Course}
+use Rattle.year.specs.declared.Sums.{Sums}
 use Rattle.year.specs.declared.Year.{Year}
 
 -- ---- what course i of two columns, the weights w and the lists l, adds to term j
@@ -42,6 +44,22 @@ fixedCount y j = sum (y .courses) (fixedOne (y .weight) (y .list) j)
 
 unfoldable pub openCount : Year → ℕ → ℕ
 openCount y j = sum (y .courses) (openOne (y .weight) (y .list) j)
+
+-- ---- the four of them in one value
+
+abbrev pub sumsOf : ℕ → ℕ → ℕ → ℕ → Sums
+sumsOf p P m n = record { fixed = record { 0 = p }; possible = record { 0 = P }; placed = record { 0 = m }; free = record { 0 = n } }
+
+abbrev pub noSums : Sums
+noSums = sumsOf 0 0 0 0
+
+-- as they are over the lists
+unfoldable pub sumsAt : Year → ℕ → Sums
+sumsAt y j = sumsOf (fixedCredits y j) (possibleCredits y j) (fixedCount y j) (openCount y j)
+
+-- and as an array of sums has them
+abbrev pub sumsIn : List Sums → ℕ → Sums
+sumsIn s j = getD s j noSums
 
 -- ---- the year
 

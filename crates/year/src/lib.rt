@@ -1,11 +1,13 @@
-// What a year is: its terms, its courses, its limits; what is sound; the doors; the narrowings.
+// What a year is: its terms, its courses, the sums of its terms, its limits; what is sound; the doors; the narrowings.
 mod bar;
+pub mod by_hand;
 mod checks;
 pub mod doors;
 mod limits;
 pub mod pairs;
 mod place;
 pub mod sound;
+pub mod summing;
 pub mod tighter;
 
 ghost use mathlib.Core.Path.{_≡_};
@@ -31,22 +33,23 @@ pub struct Course {
     pub list: u16,
 }
 
-// A year of `terms` terms and `courses` courses; course i has entry i of the weights, in credits, and of the lists.
-// Entries past the last are zero in a sound year.
-pub struct Year {
-    pub terms: usize,
-    pub courses: usize,
-    pub term: [Term; Year::TERMS],
-    pub weight: [u32; Year::COURSES],
-    pub list: [u16; Year::COURSES],
-}
-
 // The four sums of a term: the credits fixed in it (p), those fixed or open (P), the number fixed and the number open.
 pub struct Sums {
     pub fixed: Credits,
     pub possible: Credits,
     pub placed: Courses,
     pub free: Courses,
+}
+
+// A year of `terms` terms and `courses` courses; course i has entry i of the weights, in credits, and of the lists.
+// Entries past the last are zero in a sound year, and its sums are those over the lists.
+pub struct Year {
+    pub terms: usize,
+    pub courses: usize,
+    pub term: [Term; Year::TERMS],
+    pub weight: [u32; Year::COURSES],
+    pub list: [u16; Year::COURSES],
+    pub sums: [Sums; Year::TERMS],
 }
 
 // A term after its bounds were made tighter: whether one moved, and whether a pair crossed.
@@ -103,12 +106,15 @@ impl Year {
         let term = [t; Year::TERMS];
         let weight = [0u32; Year::COURSES];
         let list = [0u16; Year::COURSES];
+        let z = summing::nothing();
+        let sums = [z; Year::TERMS];
         Year {
             terms: 1,
             courses: 0,
             term: term,
             weight: weight,
             list: list,
+            sums: sums,
         }
     }
 }

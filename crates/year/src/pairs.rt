@@ -1,13 +1,12 @@
-// A year's courses as pairs of a weight and a list: a year made of them by hand, and one of them read.
+// A year's courses as pairs of a weight and a list.
 use crate::Course;
 use crate::Credits;
-use crate::Term;
 use crate::Year;
+use crate::doors;
 ghost use mathlib.Core.Path.{_≡_};
 ghost use Prim.Native.Nat.{_<_};
 ghost use lib.ListN.{length};
-ghost use Rattle.year.specs.Year.{courseOf, courseIn, courseAt};
-ghost use Rattle.year.specs.Doors.{byHand};
+ghost use Rattle.year.specs.Year.{courseOf, courseIn, courseAt, isFixed, isOpen};
 
 // The course of a weight and a list.
 pub fn course_of(weight: u32, list: u16) -> Course
@@ -27,31 +26,23 @@ pub fn course_in(weight: &[u32], list: &[u16], i: usize) -> Course
     course_of(weight[i], list[i])
 }
 
-impl Year {
-    // A year of given sizes, its terms and its courses entry by entry: any value, sound or not.
-    pub fn by_hand(
-        terms: usize,
-        courses: usize,
-        term: [Term; Year::TERMS],
-        course: [Course; Year::COURSES],
-    ) -> Year
-        ensures { λ r. ⌜ r ≡ byHand terms courses term course ⌝ }
-    {
-        let mut w = [0u32; Year::COURSES];
-        let mut l = [0u16; Year::COURSES];
-        for i in 0..Year::COURSES {
-            w[i] = course[i].weight.0;
-            l[i] = course[i].list;
-        }
-        Year {
-            terms: terms,
-            courses: courses,
-            term: term,
-            weight: w,
-            list: l,
-        }
-    }
+// Term j is the course's only one.
+pub fn is_fixed(c: Course, j: usize) -> bool
+    requires { ⌜ j < 16 ⌝ }
+    ensures { λ r. ⌜ r ≡ isFixed c j ⌝ }
+{
+    c.list == doors::power(j)
+}
 
+// The course lists term j and some other term.
+pub fn is_open(c: Course, j: usize) -> bool
+    requires { ⌜ j < 16 ⌝ }
+    ensures { λ r. ⌜ r ≡ isOpen c j ⌝ }
+{
+    doors::lists(c.list, j) & !is_fixed(c, j)
+}
+
+impl Year {
     // Course i with its weight and its list, or zeros where the largest year has no such course.
     pub fn course(self, i: usize) -> Course
         ensures { λ r. ⌜ r ≡ courseAt self i ⌝ }

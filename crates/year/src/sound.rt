@@ -3,12 +3,14 @@ use crate::Course;
 use crate::Term;
 use crate::Year;
 use crate::pairs;
+use crate::summing;
 ghost use mathlib.Core.Path.{_≡_};
 ghost use Prim.Native.Nat.{_≤_};
 ghost use lib.Dec.{ltb};
 ghost use Rattle.theory.specs.Choice.{choose};
 ghost use Rattle.theory.specs.Tests.{all};
-ghost use Rattle.year.specs.Sound.{termSound, courseSound, termBlank, courseBlank, termGood, courseGood, isSound};
+ghost use mathlib.Core.Bool.{true};
+ghost use Rattle.year.specs.Sound.{termSound, courseSound, termBlank, courseBlank, termGood, courseGood, soundButSums, sumsGood, isSound};
 
 fn term_sound(t: Term) -> bool
     ensures { λ r. ⌜ r ≡ termSound t ⌝ }
@@ -84,9 +86,9 @@ fn courses_good(y: Year) -> bool
     good
 }
 
-// The year value is sound.
-pub fn is_sound(y: Year) -> bool
-    ensures { λ r. ⌜ r ≡ isSound y ⌝ }
+// The year value is sound, whatever its sums are.
+pub fn is_sound_but_sums(y: Year) -> bool
+    ensures { λ r. ⌜ r ≡ soundButSums y ⌝ }
 {
     if y.terms < 1 {
         return false;
@@ -98,4 +100,25 @@ pub fn is_sound(y: Year) -> bool
         return false;
     }
     terms_good(y) & courses_good(y)
+}
+
+// The sums of all sixteen entries are those over the lists.
+fn sums_good(y: Year) -> bool
+    requires { ⌜ soundButSums y ≡ true ⌝ }
+    ensures { λ r. ⌜ r ≡ all 16 (sumsGood y) ⌝ }
+{
+    let w = y.weight;
+    let l = y.list;
+    let sums = y.sums;
+    summing::all_same(sums, summing::sums_over(&w, &l, y.terms, y.courses))
+}
+
+// The year value is sound.
+pub fn is_sound(y: Year) -> bool
+    ensures { λ r. ⌜ r ≡ isSound y ⌝ }
+{
+    if is_sound_but_sums(y) {
+        return sums_good(y);
+    }
+    false
 }

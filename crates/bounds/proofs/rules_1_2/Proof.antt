@@ -1,11 +1,10 @@
 -- Each rule starts from the bounds that the rule before it left, and the courses stay.
-use mathlib.Core.Path.{_∙_}
+use mathlib.Core.Path.{refl, _∙_}
 use borrow.Author.Needs.{needs}
 use Rattle.rules.specs.Step.{overTerms, Step}
 use Rattle.frame.specs.State.{yearIn, stepIn}
 use Rattle.rules.specs.Bounds.{rule1}
 use Rattle.rules.specs.Round.{bounded}
-use Rattle.frame.proofs.StateLaws.{sums-held}
 use Rattle.frame.proofs.BoundsAt.{BoundsAt, at-start, at-long, at-sound, at-end, sums-fit}
 use Rattle.bounds.proofs.BoundsRows.{row-1, row-2}
 use Rattle.bounds.proofs.rules_1_2.Statement.{statement}
@@ -21,7 +20,7 @@ first : (c : tie.After-over-own-sums) → BoundsAt (from (c .before .before .bef
 first c =
     let b = c .before .before .before .before in
     let w = b .args .weight .now in
-    row-1 (from b) (c .before .bounds-of .result) (from b) (starts (c .before)) (b .args .s .sums) (sums-held w (b .args .s) (b .pre .1 .0)) (c .over-own-sums .result) (c .over-own-sums .ensures)
+    row-1 (from b) (c .before .bounds-of .result) (from b) (starts (c .before)) (c .over-own-sums .result) (c .over-own-sums .ensures)
 
 bounds-of-requires : tie.Need-bounds-of-requires
 bounds-of-requires c κs = search needs
@@ -31,7 +30,7 @@ over-own-sums-requires c κs =
     let b = c .before .before .before in
     let w = b .args .weight .now in (
       (b .pre .0 .terms-most, at-long (from b) (c .bounds-of .result) (from b) (starts c)),
-      sums-fit (yearIn w (b .args .s)) (b .args .s .sums) (b .pre .0) (sums-held w (b .args .s) (b .pre .1 .0)),
+      sums-fit (yearIn w (b .args .s)) (b .pre .0),
     )
 
 over-other-terms-requires : tie.Need-over-other-terms-requires
@@ -48,8 +47,8 @@ returns : tie.Need-returns
 returns c =
     let b = c .before .before .before .before .before .before in
     let r = c .before .over-other-terms .result in
-    let second = row-2 (from b) (c .before .before .over-own-sums .result) _ (first (c .before .before)) r (b .args .all) (b .pre .1 .1) (c .before .over-other-terms .ensures) in
-    c .with-bounds .ensures ∙ at-end (from b) r _ second (b .args .s) (b .pre .1 .0)
+    let second = row-2 (from b) (c .before .before .over-own-sums .result) _ (first (c .before .before)) r (b .args .all) (b .pre .1) (c .before .over-other-terms .ensures) in
+    c .with-bounds .ensures ∙ at-end (from b) r _ second (b .args .s) refl
 
 pub rules-1-2-spec : {M : Type 1} → statement M
 rules-1-2-spec =

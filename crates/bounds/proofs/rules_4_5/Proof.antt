@@ -5,7 +5,6 @@ use Rattle.rules.specs.Step.{overTerms, Step}
 use Rattle.frame.specs.State.{yearIn, stepIn}
 use Rattle.rules.specs.Bounds.{rule4}
 use Rattle.rules.specs.Round.{bounded}
-use Rattle.frame.proofs.StateLaws.{sums-held}
 use Rattle.frame.proofs.BoundsAt.{BoundsAt, at-start, at-long, at-sound, at-end, sums-fit}
 use Rattle.bounds.proofs.BoundsRows.{row-4, row-5}
 use Rattle.bounds.proofs.rules_4_5.Statement.{statement}
@@ -15,13 +14,13 @@ abbrev from : tie.Start → Step
 from b = stepIn (b .args .weight .now) (b .args .s)
 
 starts : (c : tie.After-bounds-of) → BoundsAt (from (c .before .before .before)) (c .bounds-of .result) (from (c .before .before .before))
-starts c = let b = c .before .before .before in at-start (from b) (c .bounds-of .result) (b .pre .0) (c .bounds-of .ensures)
+starts c = let b = c .before .before .before in at-start (from b) (c .bounds-of .result) (b .pre) (c .bounds-of .ensures)
 
 fourth : (c : tie.After-over-own-sums) → BoundsAt (from (c .before .before .before .before)) (c .over-own-sums .result) (overTerms (bounded rule4) (from (c .before .before .before .before)))
 fourth c =
     let b = c .before .before .before .before in
     let w = b .args .weight .now in
-    row-4 (from b) (c .before .bounds-of .result) (from b) (starts (c .before)) (b .args .s .sums) (sums-held w (b .args .s) (b .pre .1)) (c .over-own-sums .result) (c .over-own-sums .ensures)
+    row-4 (from b) (c .before .bounds-of .result) (from b) (starts (c .before)) (c .over-own-sums .result) (c .over-own-sums .ensures)
 
 bounds-of-requires : tie.Need-bounds-of-requires
 bounds-of-requires c κs = search needs
@@ -30,8 +29,8 @@ over-own-sums-requires : tie.Need-over-own-sums-requires
 over-own-sums-requires c κs =
     let b = c .before .before .before in
     let w = b .args .weight .now in (
-      (b .pre .0 .terms-most, at-long (from b) (c .bounds-of .result) (from b) (starts c)),
-      sums-fit (yearIn w (b .args .s)) (b .args .s .sums) (b .pre .0) (sums-held w (b .args .s) (b .pre .1)),
+      (b .pre .terms-most, at-long (from b) (c .bounds-of .result) (from b) (starts c)),
+      sums-fit (yearIn w (b .args .s)) (b .pre),
     )
 
 cast-t8 : tie.Need-cast-t8
@@ -40,7 +39,7 @@ cast-t8 c = search needs
 over-other-terms-requires : tie.Need-over-other-terms-requires
 over-other-terms-requires c κs =
     let b = c .before .before .before .before .before in (
-      (b .pre .0 .terms-most, at-long (from b) (c .before .over-own-sums .result) _ (fourth (c .before))),
+      (b .pre .terms-most, at-long (from b) (c .before .over-own-sums .result) _ (fourth (c .before))),
       at-sound (from b) (c .before .over-own-sums .result) _ (fourth (c .before)),
     )
 
@@ -52,7 +51,7 @@ returns c =
     let b = c .before .before .before .before .before .before .before in
     let r = c .before .over-other-terms .result in
     let fifth = row-5 (from b) (c .before .before .before .over-own-sums .result) _ (fourth (c .before .before .before)) r _ refl (c .before .over-other-terms .ensures) in
-    c .with-bounds .ensures ∙ at-end (from b) r _ fifth (b .args .s) (b .pre .1)
+    c .with-bounds .ensures ∙ at-end (from b) r _ fifth (b .args .s) refl
 
 pub rules-4-5-spec : {M : Type 1} → statement M
 rules-4-5-spec =

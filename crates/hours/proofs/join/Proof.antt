@@ -12,7 +12,7 @@ enum-told : tie.Need-enum-told
 enum-told c = search needs
 
 with-hours-requires : tie.Need-with-hours-requires
-with-hours-requires c κs = law.terms-few (c .before .before .before .before .before .before .args .terms .now) (c .before .before .before .before .before .before .args .hours .now) _ (c .before .before .before .read-terms .ensures) (c .enum-told .given .1)
+with-hours-requires c κs = law.front-sound (c .before .before .before .before .before .before .args .terms .now) (c .before .before .before .before .before .before .args .hours .now) _ (c .before .before .before .read-terms .ensures) (c .enum-told .given .1)
 
 enum-known-a : tie.Need-enum-known-a
 enum-known-a c = search needs

@@ -1,7 +1,7 @@
 -- The loop's invariant: the state after the first j terms, sums included. The loop ends at the last term, or where no plan was found.
 use Prim.Native.Nat.{_≤_, _<_, _-_}
 use mathlib.Core.Logic.{⊎-elim}
-use mathlib.Core.Path.{_≡_, ap, _∙_}
+use mathlib.Core.Path.{_≡_, refl, ap, _∙_}
 use lib.Dec.{eqb, ltb}
 use borrow.Author.Tests.{ltb-true, eqb-true}
 use borrow.Author.Needs.{needs}
@@ -36,11 +36,11 @@ at c =
     let i = c .before .before .before in
     let l = i .before in
     let b = l .before .before in
-    turn-10 (b .args .weight .now) (b .args .t1) (b .pre .0) (l .loop .j) (within i) (l .loop .z) (l .loop .inv .1) (going i) (c .term-verdict-10 .result) (c .term-verdict-10 .ensures)
+    turn-10 (b .args .weight .now) (b .args .t1) (b .pre) (l .loop .j) (within i) (l .loop .z) (l .loop .inv .1) (going i) (c .term-verdict-10 .result) (c .term-verdict-10 .ensures)
 
 loop-holds : tie.Need-loop-holds Inv-loop μ-loop
 unfolding fold
-loop-holds c = (search needs, c .before .pre .1)
+loop-holds c = (search needs, refl)
 
 mul-t : tie.Need-mul-t Inv-loop μ-loop
 mul-t c = let w = within c in search needs
@@ -58,7 +58,7 @@ term-verdict-10-requires : tie.Need-term-verdict-10-requires Inv-loop μ-loop
 term-verdict-10-requires c κs = let i = c .before .before in
     let l = i .before in
     let b = l .before .before in
-    fits-10 (b .args .weight .now) (b .args .t1) (b .pre .0) (l .loop .j) (within i) (l .loop .z) (l .loop .inv .1) (going i)
+    fits-10 (b .args .weight .now) (b .args .t1) (b .pre) (l .loop .j) (within i) (l .loop .z) (l .loop .inv .1) (going i)
 
 enum-told : tie.Need-enum-told Inv-loop μ-loop
 enum-told c = search needs

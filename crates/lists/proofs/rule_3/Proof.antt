@@ -1,7 +1,7 @@
 -- The loop's invariant: the state after the first j terms, sums included. A term of which the rule says nothing would have altered nothing.
 use Prim.Native.Nat.{_≤_, _-_}
 use mathlib.Core.Logic.{⊎-elim}
-use mathlib.Core.Path.{_≡_, sym, ap, _∙_}
+use mathlib.Core.Path.{_≡_, refl, sym, ap, _∙_}
 use native.Mathlib.Omega.{arith}
 use borrow.Author.Needs.{needs}
 use Rattle.theory.specs.Fold.{fold}
@@ -33,23 +33,23 @@ at c =
     let i = c .before .before .before .before in
     let l = i .before in
     let b = start l in
-    turn-3 (b .args .weight .now) (b .args .t1) (b .pre .0) (on l .if1 .left) (l .loop .j) (i .loop-test .taken) (l .loop .z) (l .loop .inv .1) (l .before .heaviest .result) (l .before .heaviest .ensures)
+    turn-3 (b .args .weight .now) (b .args .t1) (b .pre) (on l .if1 .left) (l .loop .j) (i .loop-test .taken) (l .loop .z) (l .loop .inv .1) (l .before .heaviest .result) (l .before .heaviest .ensures)
     (c .term-verdict-3 .result) (c .term-verdict-3 .ensures)
 
 returns : tie.Need-returns Inv-loop μ-loop
 returns c = let b = c .before .before in
-    b .pre .1 ∙ ap held (sym (no-plan-stays rule3 (stepIn (b .args .weight .now) (b .args .t1)) (c .if1 .taken)))
+    ap held (sym (no-plan-stays rule3 (stepIn (b .args .weight .now) (b .args .t1)) (c .if1 .taken)))
 
 slice-aggregate-heaviest : tie.Need-slice-aggregate-heaviest Inv-loop μ-loop
 slice-aggregate-heaviest c = search needs
 
 heaviest-requires : tie.Need-heaviest-requires Inv-loop μ-loop
-heaviest-requires c κs = let sound = c .before .before .before .before .pre .0 in
+heaviest-requires c κs = let sound = c .before .before .before .before .pre in
     (omega (arith, sound), omega (arith, sound))
 
 loop-holds : tie.Need-loop-holds Inv-loop μ-loop
 unfolding fold
-loop-holds c = (search needs, c .before .before .before .before .before .pre .1)
+loop-holds c = (search needs, refl)
 
 mul-t : tie.Need-mul-t Inv-loop μ-loop
 mul-t c = search needs
@@ -73,7 +73,7 @@ term-verdict-3-requires : tie.Need-term-verdict-3-requires Inv-loop μ-loop
 term-verdict-3-requires c κs = let i = c .before .before .before in
     let l = i .before in
     let b = start l in
-    fits-3 (b .args .weight .now) (b .args .t1) (b .pre .0) (on l .if1 .left) (l .loop .j) (i .loop-test .taken) (l .loop .z) (l .loop .inv .1) (l .before .heaviest .result) (l .before .heaviest .ensures)
+    fits-3 (b .args .weight .now) (b .args .t1) (b .pre) (on l .if1 .left) (l .loop .j) (i .loop-test .taken) (l .loop .z) (l .loop .inv .1) (l .before .heaviest .result) (l .before .heaviest .ensures)
 
 enum-told : tie.Need-enum-told Inv-loop μ-loop
 enum-told c = search needs

@@ -10,7 +10,7 @@ empty-requires c κs = search needs
 
 returns : tie.Need-returns
 returns c =
-    ap (λ (y : Year). record { terms = 0; courses = y .courses; term = y .term; weight = y .weight; list = y .list }) (c .empty .ensures)
+    ap (λ (y : Year). record { terms = 0; courses = y .courses; term = y .term; weight = y .weight; list = y .list; sums = y .sums }) (c .empty .ensures)
 
 pub blank-spec : {M : Type 1} → statement M
 blank-spec = tie.close (tie.spec empty-requires returns)

@@ -9,9 +9,9 @@ use native.Mathlib.Omega.{arith}
 use native.Mathlib.Numerals.{add-one}
 use lib.ListN.{length}
 use Rattle.records.specs.declared.Fault.{Fault}
-use Rattle.records.specs.Reading.{Faulty, ofTerm, ofCourse, blankYear, done, refused, taken, recordIn, readTo, readList}
+use Rattle.records.specs.Reading.{Faulty, ofTerm, ofCourse, blankYear, done, refused, taken, recordIn, readTo, badLength, readList}
 use Rattle.records.proofs.EntryLaws.{term-read, course-read, at-term, at-course, at-neither}
-use Rattle.records.proofs.GatherLaws.{gathered-zero, gathered-more, fault-stays}
+use Rattle.records.proofs.GatherLaws.{gathered-zero, gathered-more, summed-long, summed-fault, summed-done, begun-light}
 use Rattle.records.proofs.ListLaws.{Front, read-front}
 use borrow.Author.Needs.{needs}
 
@@ -34,7 +34,8 @@ refusal : (t : tie.In-loop Inv-loop μ-loop) (f : Fault) → let l = t .before i
 unfolding readList
 refusal t f e =
     let l = t .before in
-    sym (simp (sym (l .before .before .before .bad-length .ensures) ∙ l .before .before .if1 .left) (fault-stays (recordIn (list l)) blankYear (l .loop .k) (l .loop .y) f (length (list l) / 16) (omega arith) (l .loop .inv .1) e))
+    let s = list l in
+    summed-fault (badLength (length s)) (recordIn s) blankYear (length s / 16) (sym (l .before .before .before .bad-length .ensures) ∙ l .before .before .if1 .left) (l .loop .k) (l .loop .y) f (omega arith) (l .loop .inv .1) e
 
 term-room : (c : tie.After-t Inv-loop μ-loop) → c .before .before .before .before .before .before .before .before .loop .y .terms < 16
 term-room c = term-read _ _ _ (c .t .given .0 .0) (sym (c .before .before .read-term .ensures) ∙ c .t .given .1) .room
@@ -50,7 +51,9 @@ refused-requires c κs = search needs
 
 returns : tie.Need-returns Inv-loop μ-loop
 unfolding readList
-returns c = c .refused .ensures ∙ simp (sym (c .before .before .bad-length .ensures) ∙ c .before .if1 .taken)
+returns c =
+    let s = c .before .before .before .before .args .s .now in
+    c .refused .ensures ∙ summed-long (badLength (length s)) (recordIn s) blankYear (length s / 16) (sym (c .before .before .bad-length .ensures) ∙ c .before .if1 .taken)
 
 blank-requires : tie.Need-blank-requires Inv-loop μ-loop
 blank-requires c κs = search needs
@@ -153,12 +156,16 @@ loop-again c =
           (c .if2 .came),
     )
 
+with-sums-requires : tie.Need-with-sums-requires Inv-loop μ-loop
+with-sums-requires c κs = begun-light (c .before .loop .y) (front (c .before) .begun)
+
 returns-5 : tie.Need-returns-5 Inv-loop μ-loop
 unfolding readList
 returns-5 c =
-    let s = list (c .before) in
-    let is : c .before .loop .k ≡ length s / 16 = omega arith in
-    sym (simp (sym (c .before .before .before .before .bad-length .ensures) ∙ c .before .before .before .if1 .left) (ap (readTo s) (sym is) ∙ c .before .loop .inv .1))
+    let l = c .before .before in
+    let s = list l in
+    ap done (c .with-sums .ensures)
+    ∙ summed-done (badLength (length s)) (recordIn s) blankYear (length s / 16) (sym (l .before .before .before .bad-length .ensures) ∙ l .before .before .if1 .left) (l .loop .k) (l .loop .y) (omega arith) (l .loop .inv .1)
 
 pub read-spec : {M : Type 1} → statement M
 read-spec =
@@ -197,4 +204,5 @@ read-spec =
     add-k
     loop-less
     loop-again
+    with-sums-requires
     returns-5)

@@ -1,6 +1,6 @@
 -- Each rule starts from the bounds that the rule before it left, and the courses stay. The orders are the year's own.
 use Prim.Native.Nat.{ℕ}
-use mathlib.Core.Path.{_≡_, _∙_}
+use mathlib.Core.Path.{_≡_, refl, _∙_}
 use borrow.Author.Needs.{needs}
 use Rattle.rules.specs.Step.{Step}
 use Rattle.rules.specs.Round.{inRow, passesOf}
@@ -8,7 +8,6 @@ use Rattle.frame.specs.State.{yearIn, stepIn}
 use Rattle.frame.specs.declared.Bounds.{Bounds}
 use Rattle.orders.specs.Orders.{ordersOf}
 use Rattle.orders.specs.declared.Orders.{Orders}
-use Rattle.frame.proofs.StateLaws.{sums-held}
 use Rattle.frame.proofs.BoundsAt.{BoundsAt, at-start, at-end, sums-fit}
 use Rattle.walks.specs.declared.WalkRule.the-variants.{LeastCount, MostCount, LeastLoad, MostLoad}
 use Rattle.walks.proofs.WalkRows.{Ready, row, walk-asks}
@@ -22,10 +21,10 @@ abbrev lent : tie.Start → Orders
 lent b = record { down = b .args .falling .now; up = b .args .rising .now }
 
 ready : (b : tie.Start) → Ready (b .args .weight .now) (b .args .s) (lent b)
-ready b = record { sound = b .pre .0; is-held = b .pre .1 .0; orders-are = are }
+ready b = record { sound = b .pre .0; orders-are = are }
   where
     are : lent b ≡ ordersOf (yearIn (b .args .weight .now) (b .args .s))
-    are = λ i. record { down = b .pre .1 .1 .0 i; up = b .pre .1 .1 .1 i }
+    are = λ i. record { down = b .pre .1 .0 i; up = b .pre .1 .1 i }
 
 abbrev from : tie.Start → Step
 from b = stepIn (b .args .weight .now) (b .args .s)
@@ -61,7 +60,7 @@ slice-aggregate-list c = search needs
 tallies-of-requires : tie.Need-tallies-of-requires
 tallies-of-requires c κs =
     let b = c .before .before .before .before .before .before in
-    sums-fit (from b .year) _ (b .pre .0) (sums-held _ _ (b .pre .1 .0))
+    sums-fit (from b .year) (b .pre .0)
 
 bounds-of-requires : tie.Need-bounds-of-requires
 bounds-of-requires c κs = search needs
@@ -82,7 +81,7 @@ with-bounds-requires : tie.Need-with-bounds-requires
 with-bounds-requires c κs = search needs
 
 returns : tie.Need-returns
-returns c = c .with-bounds .ensures ∙ at-end _ _ _ (after-9 (c .before)) _ (start (c .before .before .before .before .before) .pre .1 .0)
+returns c = c .with-bounds .ensures ∙ at-end _ _ _ (after-9 (c .before)) _ refl
 
 pub rules-6-to-9-spec : {M : Type 1} → statement M
 rules-6-to-9-spec =

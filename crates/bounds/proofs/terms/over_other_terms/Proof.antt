@@ -21,7 +21,7 @@ use Rattle.bounds.proofs.terms.over_other_terms.Tie as tie
 
 abbrev Inv-loop : tie.InvT-loop
 Inv-loop all m z₀ x₀ j₀ z x j =
-    (j ≤ m) × (z ≡ boundsOver (otherTermsAt all) z₀ j) × (x ≡ totalsTo (z .term) 16) × ((k : ℕ) → k < 16 → TermSound (termIn (z .term) k))
+    (j ≤ m) × (z ≡ boundsOver (otherTermsAt m all) z₀ j) × (x ≡ totalsTo (z .term) m) × ((k : ℕ) → k < 16 → TermSound (termIn (z .term) k))
 
 abbrev μ-loop : tie.MeasureT-loop
 μ-loop all m z₀ x₀ j₀ z x j = m - j
@@ -70,8 +70,8 @@ changed-requires c κs =
     let h = small l (c .before .before .before .loop-test .taken) in (
       new l h (c .before .other-terms .result) (c .before .other-terms .ensures),
       (
-        entry-le (l .loop .z .term) (l .loop .j) h (l .loop .x) (l .loop .inv .2),
-        totals-fit (l .loop .z .term) 16 (l .loop .x) (l .loop .inv .3) (omega arith) (l .loop .inv .2),
+        entry-le (l .loop .z .term) (start l .args .m) (l .loop .j) (on l (c .before .before .before .loop-test .taken) .0) (l .loop .x) (l .loop .inv .2),
+        totals-fit (l .loop .z .term) (start l .args .m) (l .loop .x) (l .loop .inv .3) (start l .pre .0 .0) (l .loop .inv .2),
       ),
     )
 
@@ -99,7 +99,7 @@ loop-again c =
     let z = l .loop .z in (
       omega (arith, on l e .0),
       term-turn _ _ (l .loop .j) z o (l .loop .inv .1) (on l e .1) (q ∙ ap (outcomeAt l) (l .loop .inv .2)),
-      c .before .changed .ensures ∙ totals-set (z .term) (l .loop .j) h (long l) (o .term) (l .loop .x) (l .loop .inv .2),
+      c .before .changed .ensures ∙ totals-set (z .term) (start l .args .m) (l .loop .j) (on l e .0) (omega (arith, long l, start l .pre .0)) (o .term) (l .loop .x) (l .loop .inv .2),
       stored-sound (z .term) (l .loop .j) (o .term) (omega (arith, h, long l)) (new l h o q) (l .loop .inv .3),
     )
 

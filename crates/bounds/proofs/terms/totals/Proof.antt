@@ -11,10 +11,10 @@ use Rattle.bounds.proofs.terms.totals.Statement.{statement}
 use Rattle.bounds.proofs.terms.totals.Tie as tie
 
 abbrev Inv-loop : tie.InvT-loop
-Inv-loop term x₀ k₀ x k = (k ≤ 16) × (x ≡ totalsTo term k)
+Inv-loop m term x₀ k₀ x k = (k ≤ m) × (x ≡ totalsTo term k)
 
 abbrev μ-loop : tie.MeasureT-loop
-μ-loop term x₀ k₀ x k = 16 - k
+μ-loop m term x₀ k₀ x k = m - k
 
 loop-holds : tie.Need-loop-holds Inv-loop μ-loop
 unfolding sum
@@ -30,7 +30,7 @@ with-term-requires : tie.Need-with-term-requires Inv-loop μ-loop
 with-term-requires c κs =
     let l = c .before .before in
     let b = l .before in
-    (b .pre (l .loop .k) (c .before .loop-test .taken), totals-fit (b .args .t1) (l .loop .k) (l .loop .x) (b .pre) (l .loop .inv .0) (l .loop .inv .1))
+    (b .pre .1 (l .loop .k) (omega (arith, b .pre .0, c .before .loop-test .taken)), totals-fit (b .args .t1) (l .loop .k) (l .loop .x) (b .pre .1) (omega (arith, b .pre .0, l .loop .inv .0)) (l .loop .inv .1))
 
 add-k : tie.Need-add-k Inv-loop μ-loop
 add-k c = search needs
@@ -48,7 +48,7 @@ loop-again c =
 returns : tie.Need-returns Inv-loop μ-loop
 returns c =
     let b = c .before .before in
-    let is : c .before .loop .k ≡ 16 = omega arith in
+    let is : c .before .loop .k ≡ b .args .m = omega arith in
     c .before .loop .inv .1 ∙ ap (totalsTo (b .args .t1)) is
 
 pub totals-spec : {M : Type 1} → statement M

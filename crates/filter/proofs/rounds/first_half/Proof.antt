@@ -10,7 +10,7 @@ use Rattle.rules.specs.Round.{inRow, passesOf}
 use Rattle.rules.proofs.Narrows.{narrower-self}
 use Rattle.rules.proofs.Passes.{lawful-part, row-last}
 use Rattle.filter.specs.Halves.{firstHalf}
-use Rattle.filter.proofs.StateAt.{StateAt, state-sound, state-self, state-rule, state-row}
+use Rattle.filter.proofs.StateAt.{StateAt, state-sound, state-rule, state-row}
 use Rattle.filter.proofs.rounds.first_half.Statement.{statement}
 use Rattle.filter.proofs.rounds.first_half.Tie as tie
 
@@ -47,7 +47,7 @@ at3 c =
 rules-1-2-requires : tie.Need-rules-1-2-requires
 rules-1-2-requires c κs =
     let b = c .before in
-    (b .pre .0, (state-self (y b) (b .args .s) (live (y b)) (at0 b), b .pre .1 .1))
+    (b .pre .0, b .pre .1 .1)
 
 returns : tie.Need-returns
 unfolding firstHalf
@@ -64,14 +64,14 @@ rule-3-requires c κs =
     let b = a .before .before in
     let x = step2 b in
     let r = a .rules-1-2 .result in
-    (state-sound (y b) r x (at2 a), state-self (y b) r x (at2 a))
+    state-sound (y b) r x (at2 a)
 
 rules-4-5-requires : tie.Need-rules-4-5-requires
 rules-4-5-requires c κs =
     let b = c .before .before .before .before .before in
     let x = step3 b in
     let r = c .rule-3 .result in
-    (state-sound (y b) r x (at3 c), state-self (y b) r x (at3 c))
+    state-sound (y b) r x (at3 c)
 
 returns-2 : tie.Need-returns-2
 unfolding firstHalf

@@ -86,10 +86,7 @@ second-half-requires c κs =
     let r = h .first-half .result in
     let e = h .first-half .ensures in (
       laws.first-sound (y l) (sound l) (l .loop .o) (l .loop .s) (l .loop .n) (l .loop .inv) r e,
-      (
-        laws.first-self (y l) (sound l) (l .loop .o) (l .loop .s) (l .loop .n) (l .loop .inv) r e,
-        laws.first-orders (y l) (sound l) (l .loop .o) (l .loop .s) (l .loop .n) (l .loop .inv) r e (c .before .orders-by .result) (c .before .orders-by .ensures),
-      ),
+      laws.first-orders (y l) (sound l) (l .loop .o) (l .loop .s) (l .loop .n) (l .loop .inv) r e (c .before .orders-by .result) (c .before .orders-by .ensures),
     )
 
 no-plan-requires-2 : tie.Need-no-plan-requires-2 Inv-loop μ-loop

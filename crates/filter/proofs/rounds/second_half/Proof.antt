@@ -1,6 +1,6 @@
 -- Between any two calls the state holds the definition's step, so the next rules may run.
 use mathlib.Core.List.{List}
-use mathlib.Core.Path.{_≡_, sym, ap, _∙_}
+use mathlib.Core.Path.{_≡_, refl, sym, ap, _∙_}
 use Prim.Native.Nat.{ℕ}
 use lib.ListN.{length}
 use Rattle.year.specs.declared.Year.{Year}
@@ -13,7 +13,7 @@ use Rattle.orders.specs.Orders.{ordersOf}
 use Rattle.orders.specs.declared.Orders.{Orders}
 use Rattle.orders.proofs.OrderLaws.{down-fits, up-fits, orders-weights}
 use Rattle.filter.specs.Halves.{secondHalf}
-use Rattle.filter.proofs.StateAt.{StateAt, state-sound, state-self, state-row, state-year}
+use Rattle.filter.proofs.StateAt.{StateAt, state-sound, state-row, state-year}
 use Rattle.filter.proofs.rounds.second_half.Statement.{statement}
 use Rattle.filter.proofs.rounds.second_half.Tie as tie
 
@@ -29,7 +29,7 @@ abbrev step5 : tie.Start → Step
 step5 b = stepIn (w b) (b .args .s)
 
 at5 : (b : tie.Start) → StateAt (y b) (b .args .s) (step5 b)
-at5 b = record { is = b .pre .1 .0; narrower = narrower-self (y b) (b .pre .0) }
+at5 b = record { is = refl; narrower = narrower-self (y b) (b .pre .0) }
 
 abbrev step9 : tie.Start → Step
 step9 b = inRow (passesOf 6 9) (step5 b)
@@ -54,10 +54,10 @@ at10 c =
 -- ---- the orders that are lent
 
 falling-is : (b : tie.Start) → b .args .o .down ≡ down (y b)
-falling-is b = ap (λ (o : Orders). o .down) (b .pre .1 .1)
+falling-is b = ap (λ (o : Orders). o .down) (b .pre .1)
 
 rising-is : (b : tie.Start) → b .args .o .up ≡ up (y b)
-rising-is b = ap (λ (o : Orders). o .up) (b .pre .1 .1)
+rising-is b = ap (λ (o : Orders). o .up) (b .pre .1)
 
 falling-long : (b : tie.Start) → 64 ≡ length (b .args .o .down)
 falling-long b = sym (ap length (falling-is b) ∙ down-fits (y b) (b .pre .0) .long)
@@ -71,7 +71,7 @@ still-rising c =
     let b = start (c .before) in
     let n = at10 c .narrower in
     ap (λ (o : Orders). o .up)
-    (b .pre .1 .1
+    (b .pre .1
     ∙ sym (orders-weights (y b) (step10 b .year) (n .courses-same) (n .weight-same))
     ∙ ap ordersOf (sym (state-year (y b) (c .rule-10 .result) (step10 b) (at10 c))))
 
@@ -86,14 +86,14 @@ slice-aggregate-rules-6-to-9-2 c = rising-long (c .before .before .before .befor
 rules-6-to-9-requires : tie.Need-rules-6-to-9-requires
 rules-6-to-9-requires c κs =
     let b = c .before .before .before .before .before in
-    (b .pre .0, (b .pre .1 .0, (falling-is b, rising-is b)))
+    (b .pre .0, (falling-is b, rising-is b))
 
 rule-10-requires : tie.Need-rule-10-requires
 rule-10-requires c κs =
     let b = start c in
     let x = step9 b in
     let r = c .rules-6-to-9 .result in
-    (state-sound (y b) r x (at9 c), state-self (y b) r x (at9 c))
+    state-sound (y b) r x (at9 c)
 
 slice-aggregate-rule-11 : tie.Need-slice-aggregate-rule-11
 slice-aggregate-rule-11 c = rising-long (start (c .before .before))
@@ -104,7 +104,7 @@ rule-11-requires c κs =
     let b = start (d .before) in
     let x = step10 b in
     let r = d .rule-10 .result in
-    (state-sound (y b) r x (at10 d), (state-self (y b) r x (at10 d), still-rising d))
+    (state-sound (y b) r x (at10 d), still-rising d)
 
 returns : tie.Need-returns
 unfolding secondHalf

@@ -6,11 +6,11 @@ use mathlib.Core.Path.{_≡_, _∙_, ap, sym}
 use native.Mathlib.Omega.{arith}
 use native.Mathlib.Numerals.{add-one}
 use lib.ListN.{length}
-use Rattle.records.specs.Reading.{ofCourse, done, refused, taken, gathered}
-use Rattle.records.proofs.GatherLaws.{gathered-zero, gathered-more, fault-stays}
-use Rattle.hours.specs.Joining.{hoursEntry, hoursList}
+use Rattle.records.specs.Reading.{ofCourse, done, taken, gathered}
+use Rattle.records.proofs.GatherLaws.{gathered-zero, gathered-more, summed-long, summed-fault, summed-done, Begun, begun-light, sound-begun}
+use Rattle.hours.specs.Joining.{hoursEntry, badHours, hoursList}
 use Rattle.hours.proofs.EntryLaws.{hours-read}
-use Rattle.hours.proofs.JoinLaws.{terms-same}
+use Rattle.hours.proofs.JoinLaws.{hours-so-far}
 use borrow.Author.Needs.{needs}
 
 abbrev Inv-loop : tie.InvT-loop
@@ -18,6 +18,13 @@ Inv-loop s n z₀ k₀ k-end z k = (k ≤ n / 16) × (gathered (hoursEntry s) z�
 
 abbrev μ-loop : tie.MeasureT-loop
 μ-loop s n z₀ k₀ k-end z k = n / 16 - k
+
+-- the year so far is one in the making
+begun : (l : tie.At-loop Inv-loop μ-loop) → Begun (l .loop .z)
+begun l =
+    let a = l .before .before .before .before in
+    let y = a .args .y in
+    hours-so-far y (a .args .s .now) (sound-begun y (a .pre .0)) (a .pre .1) (l .loop .k) (l .loop .z) (l .loop .inv .1) .begun
 
 room : (c : tie.After-c Inv-loop μ-loop) → c .before .before .before .before .loop .z .courses < 64
 room c = hours-read _ _ _ _ (c .c .given .0 .0) (sym (c .before .before .hours-record .ensures) ∙ c .c .given .1) .room
@@ -30,7 +37,10 @@ refused-requires c κs = search needs
 
 returns : tie.Need-returns Inv-loop μ-loop
 unfolding hoursList
-returns c = c .refused .ensures ∙ simp (sym (c .before .before .bad-hours .ensures) ∙ c .before .if1 .taken)
+returns c =
+    let a = c .before .before .before .before .args in
+    let s = a .s .now in
+    c .refused .ensures ∙ summed-long (badHours (length s)) (hoursEntry s) (a .y) (length s / 16) (sym (c .before .before .bad-hours .ensures) ∙ c .before .if1 .taken)
 
 loop-holds : tie.Need-loop-holds Inv-loop μ-loop
 loop-holds c = (search needs, gathered-zero _ _)
@@ -39,10 +49,7 @@ mul-hours-record : tie.Need-mul-hours-record Inv-loop μ-loop
 mul-hours-record c = search needs
 
 hours-record-requires : tie.Need-hours-record-requires Inv-loop μ-loop
-hours-record-requires c κs =
-    let b = c .before in
-    let a = b .before .before .before .before in
-    (omega arith, omega (arith, a .pre, terms-same (a .args .y) (a .args .s .now) (b .loop .k) (b .loop .z) (b .loop .inv .1) .0))
+hours-record-requires c κs = (omega arith, begun (c .before) .terms-most)
 
 enum-known-c : tie.Need-enum-known-c Inv-loop μ-loop
 enum-known-c c = search needs
@@ -75,7 +82,7 @@ returns-2 c =
     let a = b .before .before .before .before .args in
     let s = a .s .now in
     c .refused2 .ensures
-    ∙ sym (simp (sym (b .before .before .bad-hours .ensures) ∙ b .before .if1 .left) (fault-stays (hoursEntry s) (a .y) (b .loop .k) (b .loop .z) _ (length s / 16) (omega arith) (b .loop .inv .1) (ap ofCourse (sym (c .before .before .before .before .hours-record .ensures) ∙ c .before .before .f .given .1))))
+    ∙ summed-fault (badHours (length s)) (hoursEntry s) (a .y) (length s / 16) (sym (b .before .before .bad-hours .ensures) ∙ b .before .if1 .left) (b .loop .k) (b .loop .z) _ (omega arith) (b .loop .inv .1) (ap ofCourse (sym (c .before .before .before .before .hours-record .ensures) ∙ c .before .before .f .given .1))
 
 add-k : tie.Need-add-k Inv-loop μ-loop
 add-k c = search needs
@@ -91,13 +98,17 @@ loop-again c =
     let k = b .loop .k in
     (search needs, ap (gathered (hoursEntry s) (a .y)) (add-one k) ∙ gathered-more (hoursEntry s) (a .y) k (b .loop .z) (b .loop .inv .1) ∙ ap (λ r. taken (b .loop .z) k (ofCourse r)) (sym (c .before .before .before .hours-record .ensures) ∙ c .before .c .given .1))
 
+with-sums-requires : tie.Need-with-sums-requires Inv-loop μ-loop
+with-sums-requires c κs = begun-light (c .before .loop .z) (begun (c .before))
+
 returns-3 : tie.Need-returns-3 Inv-loop μ-loop
 unfolding hoursList
 returns-3 c =
-    let a = c .before .before .before .before .before .args in
+    let l = c .before .before in
+    let a = l .before .before .before .before .args in
     let s = a .s .now in
-    let is : c .before .loop .k ≡ length s / 16 = omega arith in
-    sym (simp (sym (c .before .before .before .bad-hours .ensures) ∙ c .before .before .if1 .left) (ap (gathered (hoursEntry s) (a .y)) (sym is) ∙ c .before .loop .inv .1))
+    ap done (c .with-sums .ensures)
+    ∙ summed-done (badHours (length s)) (hoursEntry s) (a .y) (length s / 16) (sym (l .before .before .bad-hours .ensures) ∙ l .before .if1 .left) (l .loop .k) (l .loop .z) (omega arith) (l .loop .inv .1)
 
 pub read-hours-spec : {M : Type 1} → statement M
 read-hours-spec =
@@ -123,4 +134,5 @@ read-hours-spec =
     add-k
     loop-less
     loop-again
+    with-sums-requires
     returns-3)

@@ -1,4 +1,4 @@
--- The loop's invariant: the flag says whether the first k terms are within their bounds. What the array holds is what is fixed in the year.
+-- The loop's invariant: the flag says whether the first k terms are within their bounds. What the year carries is what is fixed in it.
 use Prim.Native.Nat.{_≤_, _<_, _-_}
 use mathlib.Core.Path.{_≡_, sym, ap, ap₂, _∙_}
 use mathlib.Core.Bool.{_&&_}
@@ -8,15 +8,15 @@ use Rattle.theory.specs.Tests.{all}
 use Rattle.theory.proofs.TestLaws.{all-more}
 use Rattle.year.specs.Year.{termAt}
 use Rattle.year.specs.Imbalance.{fits, fitsAt}
-use Rattle.year.proofs.SumLaws.{fixed-read, placed-read}
+use Rattle.year.proofs.SumLaws.{fixed-read, placed-read, sums-long}
 use Rattle.totals.proofs.measure.all_fit.Statement.{statement}
 use Rattle.totals.proofs.measure.all_fit.Tie as tie
 
 abbrev Inv-loop : tie.InvT-loop
-Inv-loop y s good₀ k₀ k-end good k = (k ≤ y .terms) × (good ≡ all k (fitsAt y))
+Inv-loop y good₀ k₀ k-end good k = (k ≤ y .terms) × (good ≡ all k (fitsAt y))
 
 abbrev μ-loop : tie.MeasureT-loop
-μ-loop y s good₀ k₀ k-end good k = y .terms - k
+μ-loop y good₀ k₀ k-end good k = y .terms - k
 
 loop-holds : tie.Need-loop-holds Inv-loop μ-loop
 unfolding all
@@ -31,8 +31,10 @@ element-copy-out-fits c = search needs
 mul-fits-2 : tie.Need-mul-fits-2 Inv-loop μ-loop
 mul-fits-2 c = search needs
 
-array-copy-out-fits : tie.Need-array-copy-out-fits Inv-loop μ-loop
-array-copy-out-fits c = search needs
+element-copy-out-fits-2 : tie.Need-element-copy-out-fits-2 Inv-loop μ-loop
+element-copy-out-fits-2 c =
+    let b = c .before .before .before in
+    omega (arith, b .pre, sums-long (b .args .t1) (b .pre))
 
 fits-requires : tie.Need-fits-requires Inv-loop μ-loop
 fits-requires c κs = search needs
@@ -49,8 +51,8 @@ loop-again c =
     let b = l .before in
     let y = b .args .t1 in
     let k = l .loop .k in
-    let small : k < 16 = omega (arith, b .pre .0) in
-    let is : c .fits2 .result ≡ fitsAt y k = c .fits2 .ensures ∙ ap₂ (fits (termAt y k)) (fixed-read y (b .args .t2) (b .pre .1) k small) (placed-read y (b .args .t2) (b .pre .1) k small) in
+    let small : k < 16 = omega (arith, b .pre) in
+    let is : c .fits2 .result ≡ fitsAt y k = c .fits2 .ensures ∙ ap₂ (fits (termAt y k)) (fixed-read y (y .sums) (b .pre .sums-kept) k small) (placed-read y (y .sums) (b .pre .sums-kept) k small) in
     (search needs, ap₂ _&&_ (l .loop .inv .1) is ∙ sym (all-more k (fitsAt y)))
 
 returns : tie.Need-returns Inv-loop μ-loop
@@ -69,7 +71,7 @@ all-fit-spec =
     mul-fits
     element-copy-out-fits
     mul-fits-2
-    array-copy-out-fits
+    element-copy-out-fits-2
     fits-requires
     add-k
     loop-less

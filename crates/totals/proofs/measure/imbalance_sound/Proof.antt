@@ -33,9 +33,6 @@ placed c = sym (c .before .all-placed .ensures) ∙ not-false _ (c .if1 .left)
 total : (c : tie.Else1) → sum (year c .terms) (fixedCredits (year c)) ≡ allCredits (year c)
 total c = placed-total (year c) (c .before .before .pre) (placed c)
 
-sums-of-requires : tie.Need-sums-of-requires
-sums-of-requires c κs = search needs
-
 all-fit-requires : tie.Need-all-fit-requires
 all-fit-requires c κs = search needs
 
@@ -44,7 +41,7 @@ loads-of-requires c κs = search needs
 
 difference-requires : tie.Need-difference-requires
 difference-requires c κs =
-    let e = c .before .before .before .before in
+    let e = c .before .before .before in
     let y = year e in
     let s = e .before .before .pre in
     let l = c .loads-of .ensures in (
@@ -57,14 +54,14 @@ difference-requires c κs =
 returns-2 : tie.Need-returns-2
 returns-2 c =
     let t = c .before .before in
-    let e = t .before .before .before in
+    let e = t .before .before in
     let l = c .before .loads-of .ensures in
     ap Imbalance (rw (l .0, l .1, total e) at (c .difference .ensures))
     ∙ sym (imbalance-given (year e) (e .before .before .pre) (placed e) (sym (t .before .all-fit .ensures) ∙ t .if2 .taken))
 
 returns-3 : tie.Need-returns-3
 returns-3 c =
-    let e = c .before .before .before in
+    let e = c .before .before in
     sym (imbalance-unfit (year e) (e .before .before .pre) (placed e) (sym (c .before .all-fit .ensures) ∙ c .if2 .left))
 
 pub imbalance-sound-spec : {M : Type 1} → statement M
@@ -73,7 +70,6 @@ imbalance-sound-spec =
     (tie.spec
     all-placed-requires
     returns
-    sums-of-requires
     all-fit-requires
     loads-of-requires
     difference-requires

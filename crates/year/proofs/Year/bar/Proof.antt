@@ -8,7 +8,7 @@ use borrow.Author.Needs.{needs}
 use borrow.Author.Tests.{not-true, not-false, eq-eqb, ne-eqb}
 use Rattle.year.specs.Year.{courseAt, lists}
 use Rattle.year.specs.Narrow.{barOf, barring}
-use Rattle.year.proofs.CheckLaws.{named-in, named-done, named-refused, no-refusal}
+use Rattle.year.proofs.CheckLaws.{named-there, named-in, named-done, named-refused, no-refusal}
 use Rattle.year.proofs.Year.bar.Statement.{statement}
 use Rattle.year.proofs.Year.bar.Tie as tie
 
@@ -66,8 +66,10 @@ returns-3 c =
 struck-requires : tie.Need-struck-requires
 struck-requires c κs =
     let l = c .before .before in
-    let t = there (l .before .before .before) in
-    (t .0, (t .1, listed l))
+    let e = l .before .before .before in
+    let b = e .before .before .before .args in
+    let s = named-there (b .t1) (b .i) (b .j) _ (e .before .before .named .ensures) (e .enum-told .given .1) in
+    (s .0, (s .1 .0, (there e .1, listed l)))
 
 returns-4 : tie.Need-returns-4
 unfolding barOf

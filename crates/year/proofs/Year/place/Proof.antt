@@ -5,7 +5,7 @@ use native.Mathlib.Omega.{arith}
 use borrow.Author.Needs.{needs}
 use borrow.Author.Tests.{not-true, not-false}
 use Rattle.year.specs.Narrow.{placeOf, placing}
-use Rattle.year.proofs.CheckLaws.{named-in, named-done, named-refused, no-refusal}
+use Rattle.year.proofs.CheckLaws.{named-there, named-in, named-done, named-refused, no-refusal}
 use Rattle.year.proofs.Year.place.Statement.{statement}
 use Rattle.year.proofs.Year.place.Tie as tie
 
@@ -44,7 +44,11 @@ returns-2 c =
     (simp (sym (c .before .lists .ensures) ∙ not-true _ (c .if1 .taken)))
 
 placed-requires : tie.Need-placed-requires
-placed-requires c κs = there (c .before .before .before)
+placed-requires c κs =
+    let e = c .before .before .before in
+    let b = e .before .before .before .args in
+    let s = named-there (b .t1) (b .i) (b .j) _ (e .before .before .named .ensures) (e .enum-told .given .1) in
+    (s .0, (s .1 .0, there e .1))
 
 returns-3 : tie.Need-returns-3
 unfolding placeOf

@@ -14,7 +14,7 @@ power-requires : tie.Need-power-requires
 power-requires c κs = search needs
 
 sub-with-list : tie.Need-sub-with-list
-sub-with-list c = rw (c .power .ensures) (has-le _ _ (c .before .before .pre .1 .1))
+sub-with-list c = rw (c .power .ensures) (has-le _ _ (c .before .before .pre .1 .1 .1))
 
 with-list-requires : tie.Need-with-list-requires
 with-list-requires c κs = search needs

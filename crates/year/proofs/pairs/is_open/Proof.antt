@@ -2,8 +2,8 @@
 use mathlib.Core.Path.{ap₂}
 use mathlib.Core.Bool.{_&&_, not}
 use borrow.Author.Needs.{needs}
-use Rattle.totals.proofs.is_open.Statement.{statement}
-use Rattle.totals.proofs.is_open.Tie as tie
+use Rattle.year.proofs.pairs.is_open.Statement.{statement}
+use Rattle.year.proofs.pairs.is_open.Tie as tie
 
 lists-requires : tie.Need-lists-requires
 lists-requires c κs = search needs

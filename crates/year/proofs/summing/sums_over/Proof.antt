@@ -5,10 +5,11 @@ use native.Mathlib.Omega.{arith}
 use lib.ListN.{replicate, length-replicate, getD-replicate}
 use borrow.Author.Needs.{needs}
 use Rattle.theory.proofs.TabLaws.{fill, fill-front, filling-long, filling-more}
-use Rattle.year.specs.SumsOf.{sumsTo, noSums}
-use Rattle.totals.proofs.ColumnLaws.{sums-past}
-use Rattle.totals.proofs.sums_over.Statement.{statement}
-use Rattle.totals.proofs.sums_over.Tie as tie
+use Rattle.year.specs.Sums.{noSums}
+use Rattle.year.specs.SumsOf.{sumsTo}
+use Rattle.year.proofs.ListedLaws.{sums-past}
+use Rattle.year.proofs.summing.sums_over.Statement.{statement}
+use Rattle.year.proofs.summing.sums_over.Tie as tie
 
 abbrev Inv-loop : tie.InvT-loop
 Inv-loop weight list m n s₀ j₀ s j = (j ≤ m) × (s ≡ fill (sumsTo weight list n) s₀ j)

@@ -1,7 +1,7 @@
 -- The test against the power is the definition's.
 use borrow.Author.Needs.{needs}
-use Rattle.totals.proofs.is_fixed.Statement.{statement}
-use Rattle.totals.proofs.is_fixed.Tie as tie
+use Rattle.year.proofs.pairs.is_fixed.Statement.{statement}
+use Rattle.year.proofs.pairs.is_fixed.Tie as tie
 
 power-requires : tie.Need-power-requires
 power-requires c κs = search needs

@@ -1,2 +1,0 @@
--- Laws about the columns of a year.
-pub mod ColumnLaws
