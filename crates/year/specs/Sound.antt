@@ -8,8 +8,8 @@ use Rattle.theory.specs.Choice.{choose}
 use Rattle.theory.specs.Tab.{tab}
 use Rattle.theory.specs.Tests.{all}
 use Rattle.year.specs.Year.{termAt, courseAt, zeroTerm, zeroCourse}
-use Rattle.year.specs.declared.Term.{Term}
 use Rattle.year.specs.Sums.{sumsAt, sumsIn}
+use Rattle.year.specs.declared.Term.{Term}
 use Rattle.year.specs.declared.Course.{Course}
 use Rattle.year.specs.declared.Sums.{Sums}
 use Rattle.year.specs.declared.Year.{Year}

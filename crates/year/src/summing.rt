@@ -30,7 +30,13 @@ pub fn nothing() -> Sums
 
 // ---- all courses
 
-// x where the test passes, and 0 where it fails. The sums of all courses fit sixteen bits.
+// Credits while they are added up: those of a whole year fit sixteen bits, of which a vector holds twice as many.
+struct ShortCredits(u16);
+
+// Courses while they are added up.
+struct ShortCourses(u16);
+
+// x where the test passes, and 0 where it fails.
 fn picked_short(test: bool, x: u16) -> u16
     ensures { λ r. ⌜ r ≡ pick test x ⌝ }
 {
@@ -44,24 +50,24 @@ fn sums_in(weight: &[u32], list: &[u16], n: usize, j: usize) -> Sums
     ensures { λ r. ⌜ r ≡ sumsTo (now (weight .entry)) (now (list .entry)) n j ⌝ }
 {
     let alone = doors::power(j);
-    let mut fixed: u16 = 0;
-    let mut possible: u16 = 0;
-    let mut placed: u16 = 0;
-    let mut listed: u16 = 0;
+    let mut fixed = ShortCredits(0);
+    let mut possible = ShortCredits(0);
+    let mut placed = ShortCourses(0);
+    let mut listed = ShortCourses(0);
     for i in 0..n {
         let w = weight[i] as u16;
         let l = list[i];
         let lists = doors::lists(l, j);
-        fixed += picked_short(l == alone, w);
-        possible += picked_short(lists, w);
-        placed += picked_short(l == alone, 1);
-        listed += picked_short(lists, 1);
+        fixed.0 += picked_short(l == alone, w);
+        possible.0 += picked_short(lists, w);
+        placed.0 += picked_short(l == alone, 1);
+        listed.0 += picked_short(lists, 1);
     }
     Sums {
-        fixed: Credits(fixed as u32),
-        possible: Credits(possible as u32),
-        placed: Courses(placed as u32),
-        free: Courses((listed - placed) as u32),
+        fixed: Credits(fixed.0 as u32),
+        possible: Credits(possible.0 as u32),
+        placed: Courses(placed.0 as u32),
+        free: Courses((listed.0 - placed.0) as u32),
     }
 }
 
