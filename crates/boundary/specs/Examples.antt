@@ -5,7 +5,7 @@ use mathlib.Core.List.{List, [], _∷_, _++_}
 use mathlib.Core.Path.{_≡_, refl}
 use lib.ListN.{drop, replicate, set, take}
 use Rattle.year.specs.Year.{termOf, courseOf}
-use Rattle.year.specs.Narrow.{placeOf, barOf, raiseLowCreditsOf, lowerHighCreditsOf, raiseLowCountOf, lowerHighCountOf}
+use Rattle.year.specs.Narrow.{placeOf, barOf, tightenOf}
 use Rattle.year.specs.Imbalance.{onePlan, imbalanceOf}
 use Rattle.year.specs.Examples.{yearOf, settledE, crowdedE, loaded, heaped}
 use Rattle.year.specs.declared.Term.{Term}
@@ -21,7 +21,7 @@ use Rattle.boundary.specs.Calls.{readCode, imbalanceCode, filterCode, fi
 -- all that a call is computed by
 unfoldable computing : Unit {0}
 unfolding computingReading computingFilter computingJoining recordsOf joined written readCode imbalanceCode filterCode filterOut narrowOf
-    narrowCode narrowOut placeOf barOf raiseLowCreditsOf lowerHighCreditsOf raiseLowCountOf lowerHighCountOf imbalanceOf onePlan joinCode
+    narrowCode narrowOut placeOf barOf tightenOf imbalanceOf onePlan joinCode
     joinOut
 computing = tt
 

@@ -4,16 +4,18 @@ use mathlib.Core.Bool.{false}
 use mathlib.Core.List.{List}
 use lib.Dec.{ltb}
 use Rattle.theory.specs.Sum.{sum}
-use Rattle.frame.specs.Bounds.{termIn, lowIn, highIn, leastIn, mostIn}
+use Rattle.frame.specs.Bounds.{termIn, lowIn, highIn, leastIn, mostIn, outcome}
+use Rattle.frame.specs.declared.Outcome.{Outcome}
 use Rattle.year.specs.Sums.{sumsIn}
-use Rattle.year.specs.Tight.{creditsWithin, countsWithin}
+use Rattle.year.specs.Bound.{boundOf}
+use Rattle.year.specs.Within.{within}
+use Rattle.year.specs.declared.Quantity.{Quantity}
+use Rattle.year.specs.declared.Quantity.the-variants.{Credits, Counts}
+use Rattle.year.specs.declared.Side.{Side}
+use Rattle.year.specs.declared.Side.the-variants.{Low, High}
 use Rattle.year.specs.declared.Term.{Term}
 use Rattle.year.specs.declared.Sums.{Sums}
-use Rattle.rules.specs.Step.{outcome}
-use Rattle.rules.specs.declared.Outcome.{Outcome}
 use Rattle.bounds.specs.declared.Totals.{Totals}
-use Rattle.bounds.specs.declared.Quantity.{Quantity}
-use Rattle.bounds.specs.declared.Quantity.the-variants.{Credits, Counts}
 use Rattle.bounds.specs.declared.Whole.{Whole}
 use Rattle.bounds.specs.declared.Whole.the-variants as whole
 
@@ -46,33 +48,48 @@ totalsAfter x t v = record {
   most = record { 0 = x .most .0 - t .most .0 + v .most .0 };
 }
 
--- ---- the rules
+-- the sum of one bound
+abbrev pub totalIn : Side → Quantity → Totals → ℕ
+totalIn Low Credits x = x .low .0
+totalIn High Credits x = x .high .0
+totalIn Low Counts x = x .least .0
+totalIn High Counts x = x .most .0
 
-abbrev pub rule1Of : Term → Sums → Outcome
-rule1Of t u = outcome 1 false t (creditsWithin t (u .fixed .0) (u .possible .0))
+-- ---- rules 1 and 4
+
+abbrev pub ownNumber : Quantity → ℕ
+ownNumber Credits = 1
+ownNumber Counts = 4
+
+-- what is fixed, and what is fixed or open
+abbrev pub fixedAmong : Quantity → Sums → ℕ
+fixedAmong Credits u = u .fixed .0
+fixedAmong Counts u = u .placed .0
+
+abbrev pub possibleAmong : Quantity → Sums → ℕ
+possibleAmong Credits u = u .possible .0
+possibleAmong Counts u = u .placed .0 + u .free .0
+
+abbrev pub ownSumsOf : Quantity → Term → Sums → Outcome
+ownSumsOf q t u = outcome (ownNumber q) false t (within q t (fixedAmong q u) (possibleAmong q u))
+
+-- ---- rules 2 and 5
+
+abbrev pub otherNumber : Quantity → ℕ
+otherNumber Credits = 2
+otherNumber Counts = 5
 
 -- the sum over the other terms is the sum over all less the term's own
-abbrev pub rule2Of : Term → Totals → ℕ → Outcome
-rule2Of t x all =
-    outcome 2 (ltb all (x .low .0 - t .low .0)) t
-    (creditsWithin t (all - (x .high .0 - t .high .0)) (all - (x .low .0 - t .low .0)))
+abbrev pub othersIn : Side → Quantity → Totals → Term → ℕ
+othersIn s q x t = totalIn s q x - boundOf s q t
 
-abbrev pub rule4Of : Term → Sums → Outcome
-rule4Of t u = outcome 4 false t (countsWithin t (u .placed .0) (u .placed .0 + u .free .0))
+abbrev pub otherTermsOf : Quantity → Term → Totals → ℕ → Outcome
+otherTermsOf q t x all =
+    outcome (otherNumber q) (ltb all (othersIn Low q x t)) t (within q t (all - othersIn High q x t) (all - othersIn Low q x t))
 
-abbrev pub rule5Of : Term → Totals → ℕ → Outcome
-rule5Of t x all =
-    outcome 5 (ltb all (x .least .0 - t .least .0)) t
-    (countsWithin t (all - (x .most .0 - t .most .0)) (all - (x .least .0 - t .least .0)))
-
--- rule 1 for credits, rule 4 for counts; and so rules 2 and 5
-abbrev pub ownSumsOf : Quantity → Term → Sums → Outcome
-ownSumsOf Credits t u = rule1Of t u
-ownSumsOf Counts t u = rule4Of t u
-
-abbrev pub otherTermsOf : Whole → Term → Totals → Outcome
-otherTermsOf (whole.Credits all) t x = rule2Of t x (all .0)
-otherTermsOf (whole.Counts all) t x = rule5Of t x (all .0)
+abbrev pub otherTermsBy : Whole → Term → Totals → Outcome
+otherTermsBy (whole.Credits all) t x = otherTermsOf Credits t x (all .0)
+otherTermsBy (whole.Counts all) t x = otherTermsOf Counts t x (all .0)
 
 -- ---- at term j of an array, of which the first m are the year's
 
@@ -80,4 +97,4 @@ abbrev pub ownSumsAt : Quantity → List Sums → List Term → ℕ → Outcome
 ownSumsAt q u t j = ownSumsOf q (termIn t j) (sumsIn u j)
 
 abbrev pub otherTermsAt : ℕ → Whole → List Term → ℕ → Outcome
-otherTermsAt m all t j = otherTermsOf all (termIn t j) (totalsTo t m)
+otherTermsAt m all t j = otherTermsBy all (termIn t j) (totalsTo t m)

@@ -4,17 +4,12 @@ mod terms;
 use frame::State;
 use year::Courses;
 use year::Credits;
+use year::Quantity;
 ghost use mathlib.Core.Path.{_≡_};
 ghost use Rattle.year.specs.Sums.{allCredits};
 ghost use Rattle.year.specs.Sound.{Sound};
 ghost use Rattle.frame.specs.State.{held, yearIn, stepIn};
 ghost use Rattle.rules.specs.Round.{inRow, passesOf};
-
-// What a pair of bounds is of: rules 1 and 2 are about credits, rules 4 and 5 the same about counts.
-pub enum Quantity {
-    Credits,
-    Counts,
-}
 
 // What all terms together share out: all credits for rule 2, all courses for rule 5.
 pub enum Whole {

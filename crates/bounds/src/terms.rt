@@ -1,11 +1,11 @@
 // Rules 1, 2, 4 and 5: a term's bounds against its own sums, and against the other terms' bounds.
-use crate::Quantity;
 use crate::Totals;
 use crate::Whole;
 use frame::Bounds;
-use rules::Outcome;
+use frame::Outcome;
 use year::Courses;
 use year::Credits;
+use year::Quantity;
 use year::Sums;
 use year::Term;
 use year::Year;
@@ -15,7 +15,8 @@ ghost use Prim.Native.Nat.{ℕ, _-_, _≤_, _<_};
 ghost use lib.ListN.{length};
 ghost use Rattle.year.specs.Sound.{TermSound};
 ghost use Rattle.year.specs.Sums.{sumsIn};
-ghost use Rattle.bounds.specs.AtTerm.{totalsTo, totalsWith, totalsAfter, rule1Of, rule2Of, rule4Of, rule5Of, ownSumsOf, otherTermsOf, ownSumsAt, otherTermsAt};
+ghost use Rattle.year.specs.declared.Quantity.the-variants as quantity;
+ghost use Rattle.bounds.specs.AtTerm.{totalsTo, totalsWith, totalsAfter, ownSumsOf, otherTermsOf, otherTermsBy, ownSumsAt, otherTermsAt};
 ghost use Rattle.frame.specs.Bounds.{boundsOver, termIn};
 
 fn with_term(x: Totals, t: Term) -> Totals
@@ -50,26 +51,26 @@ fn totals(term: [Term; Year::TERMS], m: usize) -> Totals
 }
 
 fn rule_1(t: Term, u: Sums) -> Outcome
-    ensures { λ r. ⌜ r ≡ rule1Of t u ⌝ }
+    ensures { λ r. ⌜ r ≡ ownSumsOf quantity.Credits t u ⌝ }
 {
-    frame::outcome(1, false, t, tighter::credits_within(t, u.fixed, u.possible))
+    frame::outcome_of(1, false, t, tighter::credits_within(t, u.fixed, u.possible))
 }
 
 fn rule_2(t: Term, x: Totals, all: Credits) -> Outcome
-    ensures { λ r. ⌜ r ≡ rule2Of t x (all .0) ⌝ }
+    ensures { λ r. ⌜ r ≡ otherTermsOf quantity.Credits t x (all .0) ⌝ }
 {
     let lows = Credits(tighter::less(x.low.0, t.low.0));
     let highs = Credits(tighter::less(x.high.0, t.high.0));
     let low = Credits(tighter::less(all.0, highs.0));
     let high = Credits(tighter::less(all.0, lows.0));
-    frame::outcome(2, all.0 < lows.0, t, tighter::credits_within(t, low, high))
+    frame::outcome_of(2, all.0 < lows.0, t, tighter::credits_within(t, low, high))
 }
 
 fn rule_4(t: Term, u: Sums) -> Outcome
     requires { ⌜ (u .placed .0 ≤ 64) × (u .free .0 ≤ 64) ⌝ }
-    ensures { λ r. ⌜ r ≡ rule4Of t u ⌝ }
+    ensures { λ r. ⌜ r ≡ ownSumsOf quantity.Counts t u ⌝ }
 {
-    frame::outcome(
+    frame::outcome_of(
         4,
         false,
         t,
@@ -78,13 +79,13 @@ fn rule_4(t: Term, u: Sums) -> Outcome
 }
 
 fn rule_5(t: Term, x: Totals, all: Courses) -> Outcome
-    ensures { λ r. ⌜ r ≡ rule5Of t x (all .0) ⌝ }
+    ensures { λ r. ⌜ r ≡ otherTermsOf quantity.Counts t x (all .0) ⌝ }
 {
     let leasts = Courses(tighter::less(x.least.0, t.least.0));
     let mosts = Courses(tighter::less(x.most.0, t.most.0));
     let least = Courses(tighter::less(all.0, mosts.0));
     let most = Courses(tighter::less(all.0, leasts.0));
-    frame::outcome(
+    frame::outcome_of(
         5,
         all.0 < leasts.0,
         t,
@@ -105,7 +106,7 @@ fn own_sums(q: Quantity, t: Term, u: Sums) -> Outcome
 
 // Rule 2 for credits, rule 5 for counts.
 fn other_terms(all: Whole, t: Term, x: Totals) -> Outcome
-    ensures { λ r. ⌜ r ≡ otherTermsOf all t x ⌝ }
+    ensures { λ r. ⌜ r ≡ otherTermsBy all t x ⌝ }
 {
     match all {
         Whole::Credits(a) => rule_2(t, x, a),

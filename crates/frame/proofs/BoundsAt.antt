@@ -14,14 +14,16 @@ use Rattle.year.specs.declared.Term.{Term}
 use Rattle.year.specs.declared.Year.{Year}
 use Rattle.year.proofs.SumLaws.{counts-le, sums-read}
 use Rattle.rules.specs.Step.{Step, overTerms}
-use Rattle.rules.specs.Round.{bounded}
-use Rattle.rules.specs.declared.Outcome.{Outcome}
+use Rattle.rules.proofs.Narrows.{Narrows}
+use Rattle.rules.proofs.PlansKept.{Held}
+use Rattle.rules.proofs.KeptOver.{AtTerms}
 use Rattle.frame.specs.State.{held}
-use Rattle.frame.specs.Bounds.{boundsOf, withBounds, boundsOver, termIn}
+use Rattle.frame.specs.Bounds.{boundsOf, withBounds, put, boundsOver, termIn}
 use Rattle.frame.specs.declared.State.{State}
 use Rattle.frame.specs.declared.Bounds.{Bounds}
-use Rattle.frame.proofs.BoundsOnly.{Tightens, BoundsOnly, only-self, only-then, only-over}
-use Rattle.frame.proofs.BoundsOver.{bounds-over}
+use Rattle.frame.specs.declared.Outcome.{Outcome}
+use Rattle.frame.proofs.BoundsOnly.{BoundsOnly, only-self, only-then}
+use Rattle.frame.proofs.BoundsOver.{only-over, bounds-over}
 
 -- every entry of a sound year's bounds is within the sizes
 all-sound : (y : Year) → Sound y → (k : ℕ) → k < 16 → TermSound (termAt y k)
@@ -60,20 +62,22 @@ module _ (p : Step) (b : Bounds) (q : Step) (g : BoundsAt p b q) where
   at-sound k h = rw (g .bounds-are) (all-sound (q .year) (g .only .narrower .sound) k h)
 
   -- the next rule, which f gives where only bounds have been altered
-  pub at-next : (f : List Term → ℕ → Outcome) (rule : Year → ℕ → Outcome) → Tightens rule
-      → ((y : Year) (j : ℕ) → BoundsOnly (p .year) y → j < 16 → j < y .terms → f (y .term) j ≡ rule y j)
-      → (c : Bounds) → c ≡ boundsOver f b (p .year .terms) → BoundsAt p c (overTerms (bounded rule) q)
-  at-next f rule law same c e =
+  pub at-next : (f : List Term → ℕ → Outcome) (rule : Year → ℕ → Step) → AtTerms Held rule
+      → ((y : Year) (j : ℕ) → BoundsOnly (p .year) y → j < 16 → j < y .terms → put y j (f (y .term) j) ≡ rule y j)
+      → (c : Bounds) → c ≡ boundsOver f b (p .year .terms) → BoundsAt p c (overTerms rule q)
+  at-next f rule held same c e =
       let k = g .only in
       let m = q .year .terms in
       record {
-        bounds-are =
-            e
-            ∙ ap₂ (boundsOver f) (g .bounds-are) (sym (k .narrower .terms-same))
-            ∙ bounds-over f rule law q (k .narrower .sound)
-            (λ y j l h. same y j (only-then (p .year) (q .year) y k l) (omega (arith, l .narrower .sound)) h) m (le-refl m);
-        only = only-then (p .year) (q .year) (overTerms (bounded rule) q .year) k (only-over rule law q (k .narrower .sound) m (le-refl m));
+        bounds-are = e ∙ ap₂ (boundsOver f) (g .bounds-are) (sym (k .narrower .terms-same)) ∙ bounds-over f rule law q (k .narrower .sound) again m (le-refl m);
+        only = only-then (p .year) (q .year) (overTerms rule q .year) k (only-over f rule law q (k .narrower .sound) again m (le-refl m));
       }
+    where
+      law : AtTerms Narrows rule
+      law y j s l = held y j s l .0
+
+      again : (y : Year) (j : ℕ) → BoundsOnly (q .year) y → j < y .terms → put y j (f (y .term) j) ≡ rule y j
+      again y j l h = same y j (only-then (p .year) (q .year) y (g .only) l) (omega (arith, l .narrower .sound)) h
 
   -- the state with these bounds holds the step
   pub at-end : (s : State) → s ≡ held p → withBounds s b ≡ held q

@@ -15,12 +15,13 @@ use Rattle.theory.proofs.FoldLaws.{fold-more, fold-finish, fold-keeps, fold-tol
 use Rattle.year.specs.Sound.{Sound}
 use Rattle.year.specs.declared.Term.{Term}
 use Rattle.year.specs.declared.Year.{Year}
-use Rattle.rules.specs.Step.{Step, goes, then, overTo}
-use Rattle.rules.specs.Round.{bounded}
-use Rattle.rules.specs.declared.Outcome.{Outcome}
-use Rattle.frame.specs.Bounds.{boundsOf, putAt, going, turned, boundsOver}
+use Rattle.rules.specs.Step.{Step, goes, joined, then, overTo}
+use Rattle.rules.proofs.Narrows.{Narrows}
+use Rattle.rules.proofs.KeptOver.{AtTerms}
+use Rattle.frame.specs.Bounds.{boundsOf, put, putAt, going, turned, boundsOver}
 use Rattle.frame.specs.declared.Bounds.{Bounds}
-use Rattle.frame.proofs.BoundsOnly.{Tightens, BoundsOnly, only-self, only-next}
+use Rattle.frame.specs.declared.Outcome.{Outcome}
+use Rattle.frame.proofs.BoundsOnly.{BoundsOnly, only-self, only-next}
 
 -- ---- the loop
 
@@ -46,15 +47,24 @@ module _ (f : List Term → ℕ → Outcome) (b : Bounds) where
 
 -- ---- against the definition over years
 
-module _ (f : List Term → ℕ → Outcome) (rule : Year → ℕ → Outcome) (law : Tightens rule) (s : Step) (a : Sound (s .year))
-    (same : (y : Year) (j : ℕ) → BoundsOnly (s .year) y → j < y .terms → f (y .term) j ≡ rule y j) where
-  pub bounds-over : (n : ℕ) → n ≤ s .year .terms → boundsOver f (boundsOf s) n ≡ boundsOf (overTo (bounded rule) s n)
+-- f gives at a term what the rule gives there, where only bounds have been altered
+module _ (f : List Term → ℕ → Outcome) (rule : Year → ℕ → Step) (law : AtTerms Narrows rule) (s : Step) (a : Sound (s .year))
+    (same : (y : Year) (j : ℕ) → BoundsOnly (s .year) y → j < y .terms → put y j (f (y .term) j) ≡ rule y j) where
+  within : (z : Year) (k : ℕ) → k < s .year .terms → BoundsOnly (s .year) z → k < z .terms
+  within z k l b = omega (arith, b .narrower .terms-same)
+
+  further : (z : Year) (k : ℕ) → k < s .year .terms → BoundsOnly (s .year) z → BoundsOnly (s .year) (rule z k .year)
+  further z k l b = only-next rule law (s .year) z k (f (z .term) k) (same z k b (within z k l b)) b (within z k l b)
+
+  -- only bounds are altered over the first n terms
+  pub only-over : (n : ℕ) → n ≤ s .year .terms → BoundsOnly (s .year) (overTo rule s n .year)
+  only-over n h =
+      fold-keeps goes (then rule) s (λ z. BoundsOnly (s .year) (z .year)) n (λ z k l e b. further (z .year) k (omega arith) b) (only-self (s .year) a)
+
+  pub bounds-over : (n : ℕ) → n ≤ s .year .terms → boundsOver f (boundsOf s) n ≡ boundsOf (overTo rule s n)
   bounds-over n h =
-      sym (fold-told goes (then (bounded rule)) going (turned f) boundsOf (λ z. BoundsOnly (s .year) (z .year)) n
+      sym (fold-told goes (then rule) going (turned f) boundsOf (λ z. BoundsOnly (s .year) (z .year)) n
       (λ z. refl)
-      (λ z k l e b. only-next rule law (s .year) (z .year) k b (within (z .year) k l b))
-      (λ z k l e b. sym (ap (putAt (boundsOf z) k) (same (z .year) k b (within (z .year) k l b))))
+      (λ z k l e b. further (z .year) k (omega arith) b)
+      (λ z k l e b. ap (λ (t : Step). boundsOf (joined z t)) (sym (same (z .year) k b (within (z .year) k (omega arith) b))))
       s (only-self (s .year) a) n (le-refl n))
-    where
-      within : (z : Year) (k : ℕ) → k < n → BoundsOnly (s .year) z → k < z .terms
-      within z k l b = omega (arith, b .narrower .terms-same)

@@ -3,3 +3,4 @@ pub mod StateLaws
 pub mod BoundsOnly
 pub mod BoundsOver
 pub mod BoundsAt
+pub mod Moves

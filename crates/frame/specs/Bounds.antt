@@ -1,17 +1,21 @@
 -- A rule on bounds over the terms, told of the bounds alone: each term sees the bounds left by the term before, and a term that
 -- finds no plan is the last.
 use Prim.Native.Nat.{ℕ}
-use mathlib.Core.Bool.{Bool, _||_}
+use mathlib.Core.Bool.{Bool, false, _||_}
 use mathlib.Core.List.{List}
 use lib.Dec.{eqb}
 use lib.ListN.{getD, set}
+use Rattle.theory.specs.Choice.{choose}
 use Rattle.theory.specs.Fold.{fold}
 use Rattle.year.specs.Year.{zeroTerm}
+use Rattle.year.specs.Doors.{withTerm}
 use Rattle.year.specs.declared.Term.{Term}
-use Rattle.rules.specs.Step.{Step}
-use Rattle.rules.specs.declared.Outcome.{Outcome}
+use Rattle.year.specs.declared.Tight.{Tight}
+use Rattle.year.specs.declared.Year.{Year}
+use Rattle.rules.specs.Step.{Step, step}
 use Rattle.frame.specs.declared.State.{State}
 use Rattle.frame.specs.declared.Bounds.{Bounds}
+use Rattle.frame.specs.declared.Outcome.{Outcome}
 
 -- ---- entries of an array of terms
 
@@ -48,7 +52,17 @@ withBounds s b = record {
   rule = b .rule;
 }
 
--- the outcome at term j is stored
+abbrev pub outcomeOf : Term → Bool → ℕ → Outcome
+outcomeOf t a r = record { term = t; altered = a; rule = r }
+
+-- the tighter bounds w of term t under rule r; a crossing is no plan, and so is what the rule itself calls one
+unfoldable pub outcome : ℕ → Bool → Term → Tight → Outcome
+outcome r fails t w = choose (fails || w .crossed) (outcomeOf t false r) (outcomeOf (w .term) (w .altered) 0)
+
+-- the outcome at term j of a year, and of the bounds alone
+abbrev pub put : Year → ℕ → Outcome → Step
+put y j o = step (withTerm y j (o .term)) (o .altered) (o .rule)
+
 abbrev pub putAt : Bounds → ℕ → Outcome → Bounds
 putAt b j o = record { term = set (b .term) j (o .term); altered = b .altered || o .altered; rule = o .rule }
 

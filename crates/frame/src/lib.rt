@@ -1,12 +1,10 @@
 // What the code of every rule stands on: a year on its way through a round, its bounds by themselves, and the outcome at a term.
-use rules::Outcome;
 use year::Sums;
 use year::Term;
 use year::Tight;
 use year::Year;
 ghost use mathlib.Core.Path.{_≡_};
-ghost use Rattle.rules.specs.Step.{outcome};
-ghost use Rattle.frame.specs.Bounds.{withBounds};
+ghost use Rattle.frame.specs.Bounds.{withBounds, outcome};
 
 // A year on its way through the rules, but for the weights, which never change: its sizes, bounds and lists, the sums of
 // its terms, whether something was altered, and the rule that found no plan (0 while none has).
@@ -23,6 +21,13 @@ pub struct State {
 // The bounds of a year on their way through rules that alter nothing else.
 pub struct Bounds {
     pub term: [Term; Year::TERMS],
+    pub altered: bool,
+    pub rule: u32,
+}
+
+// A term after a rule was run on its bounds.
+pub struct Outcome {
+    pub term: Term,
     pub altered: bool,
     pub rule: u32,
 }
@@ -52,7 +57,7 @@ pub fn with_bounds(s: State, b: Bounds) -> State
 }
 
 // The tighter bounds w of term t under a rule, unless they cross or the rule itself fails.
-pub fn outcome(rule: u32, fails: bool, t: Term, w: Tight) -> Outcome
+pub fn outcome_of(rule: u32, fails: bool, t: Term, w: Tight) -> Outcome
     ensures { λ r. ⌜ r ≡ outcome rule fails t w ⌝ }
 {
     if fails | w.crossed {

@@ -23,11 +23,11 @@ use Rattle.year.proofs.DoorLaws.{list-other}
 use Rattle.year.proofs.SumLaws.{possible-le, all-credits-le, sums-read}
 use Rattle.rules.specs.Step.{goes, then, step, live, judged, next, overTo, Step, joined}
 use Rattle.theory.proofs.FoldLaws.{fold-more}
-use Rattle.rules.specs.Lists.{verdict3, rule3Course, verdict10, rule10Course}
+use Rattle.rules.specs.Lists.{verdict3, verdict10}
 use Rattle.rules.specs.declared.Verdict.{Verdict}
 use Rattle.rules.specs.declared.Verdict.the-variants.{Stays, Struck, Fixed}
 use Rattle.rules.proofs.Narrows.{Narrows, narrows-rest, narrows-over, Lawful}
-use Rattle.rules.proofs.Steps.{lawful-3, lawful-10}
+use Rattle.rules.proofs.Steps.{judged-narrows}
 use Rattle.frame.specs.State.{held, yearIn, stepIn}
 use Rattle.frame.specs.declared.State.{State}
 use Rattle.lists.specs.TermVerdict.{courseVerdict, listAfter, courseJudged}
@@ -69,11 +69,9 @@ verdict-open w c t p P j d = go (isOpen c j) refl
     go false q = absurd (d (verdict-stays w c t p P j q))
 
 pub lawful : (w : TermVerdict) (terms courses j : ℕ) → j < terms → Lawful terms courses (courseJudged w j) courses
-unfolding courseJudged rule3Course rule10Course
-lawful Nothing terms courses j l = λ z k s t c h. narrows-rest z 0 s
-lawful ByCredits terms courses j l = lawful-3 terms courses j l
-lawful (ByCounts full needed) terms courses j l = lawful-10 terms courses j full needed l
-lawful (NoPlan r) terms courses j l = λ z k s t c h. narrows-rest z 0 s
+unfolding courseJudged
+lawful w terms courses j l z i s t c h =
+    judged-narrows z i j _ s (omega arith) (omega arith) (verdict-stays w (courseAt z i) (termAt z j) (fixedCredits z j) (possibleCredits z j) j)
 
 -- ---- the first n courses
 

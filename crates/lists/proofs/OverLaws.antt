@@ -25,7 +25,7 @@ use Rattle.rules.specs.Lists.{rule3, rule10}
 use Rattle.frame.specs.declared.State.{State}
 use Rattle.rules.proofs.Narrows.{Narrows, narrows-rest, narrows-over}
 use Rattle.rules.proofs.Passes.{over-joined}
-use Rattle.rules.proofs.Steps.{narrows-3, narrows-10}
+use Rattle.rules.proofs.ListsKept.{rule3-held, rule10-held}
 use Rattle.frame.proofs.StateLaws.{year-held, step-held, sound-held}
 use Rattle.lists.specs.TermVerdict.{termVerdict3, termVerdict10, termJudged}
 use Rattle.lists.specs.Heaviest.{heaviestAt}
@@ -50,13 +50,13 @@ terms-judged (NoPlan r) y j = refl
 
 lists-3 : OnLists rule3
 lists-3 = record {
-  narrows = λ y j s h. narrows-3 y j s h;
+  narrows = λ y j s h. rule3-held y j s h .0;
   terms = λ y j. ap (λ (s : Step). s .year .term) (credits-is y j) ∙ terms-judged ByCredits y j;
 }
 
 lists-10 : OnLists rule10
 lists-10 = record {
-  narrows = λ y j s h. narrows-10 y j s h;
+  narrows = λ y j s h. rule10-held y j s h .0;
   terms = λ y j. ap (λ (s : Step). s .year .term) (rule-10-is y j) ∙ terms-judged (termVerdict10 (termAt y j) (sumsAt y j)) y j;
 }
 

@@ -31,7 +31,9 @@ use Rattle.filter.specs.declared.Answer.{Answer}
 use Rattle.filter.specs.declared.Answer.the-variants.{Settled, Open, NoPlan, Unsound}
 use Rattle.boundary.specs.Calls.{leftWhenRead, filterLeft, filterOut, narrowOf, narrowLeft, narrowOut, leftWhenJoined, joinOut}
 use Rattle.filter.proofs.RoundLaws.{filter-narrower}
-use Rattle.promises.specs.Narrowings.{Narrow, place, bar, raiseLowCredits, lowerHighCredits, raiseLowCount, lowerHighCount, narrow}
+use Rattle.year.specs.declared.Quantity.the-variants as quantity
+use Rattle.year.specs.declared.Side.the-variants.{Low, High}
+use Rattle.promises.specs.Narrowings.{Narrow, place, bar, tighten, narrow}
 use Rattle.promises.specs.Boundary.{FilterLeaves, NarrowLeaves, JoinLeaves, BufferLeft}
 use Rattle.promises.proofs.Narrowings.{narrow-narrower}
 use Rattle.promises.proofs.RoundTrip.{fault-has-number, read-done}
@@ -118,10 +120,10 @@ unfolding narrowOf
 narrow-alike y s kind i j =
     choose-any (SoundAlike y) (eqb kind 0) _ _ (sound-alike y s (place i j))
     (choose-any (SoundAlike y) (eqb kind 1) _ _ (sound-alike y s (bar i j))
-    (choose-any (SoundAlike y) (eqb kind 2) _ _ (sound-alike y s (raiseLowCredits i j))
-    (choose-any (SoundAlike y) (eqb kind 3) _ _ (sound-alike y s (lowerHighCredits i j))
-    (choose-any (SoundAlike y) (eqb kind 4) _ _ (sound-alike y s (raiseLowCount i j))
-    (choose-any (SoundAlike y) (eqb kind 5) _ _ (sound-alike y s (lowerHighCount i j)) (s, refl, refl))))))
+    (choose-any (SoundAlike y) (eqb kind 2) _ _ (sound-alike y s (tighten Low quantity.Credits i j))
+    (choose-any (SoundAlike y) (eqb kind 3) _ _ (sound-alike y s (tighten High quantity.Credits i j))
+    (choose-any (SoundAlike y) (eqb kind 4) _ _ (sound-alike y s (tighten Low quantity.Counts i j))
+    (choose-any (SoundAlike y) (eqb kind 5) _ _ (sound-alike y s (tighten High quantity.Counts i j)) (s, refl, refl))))))
 
 narrow-leaves : (s : List ℕ) (kind i j : ℕ) (b : List ℕ) → NarrowLeaves s kind i j b
 unfolding narrowOut

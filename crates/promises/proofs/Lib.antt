@@ -18,6 +18,7 @@ pub mod JoinedYear
 pub mod Sequence
 pub mod SumsKept
 pub mod SpareRoom
+pub mod Reasons
 pub mod Boundary
 pub mod Decimal
 pub mod Listing

@@ -1,36 +1,39 @@
 -- The six narrowings: each keeps what is promised of it. The four on bounds go by one law, the two on lists each by its door.
-use Prim.Native.Nat.{ℕ, _^_, _≤_, _<_, min, max}
-use mathlib.Core.Bool.{Bool, true, false, _||_, true≢false}
+use Prim.Native.Nat.{ℕ, _^_, _<_}
+use mathlib.Core.Bool.{Bool, true, false, true≢false}
 use mathlib.Core.Logic.{_↔_}
 use mathlib.Core.Path.{_≡_, refl, sym, ap, subst, _∙_}
 use native.Mathlib.Omega.{arith}
-use lib.Dec.{eqb, leb, ltb}
+use lib.Dec.{eqb, leb}
 use lib.Seq.{set-getD}
-use borrow.Author.Tests.{eqb-true, leb-false, ltb-false, eq-eqb}
+use borrow.Author.Tests.{eqb-true, leb-false, eq-eqb}
 use Rattle.theory.specs.Choice.{choose}
 use Rattle.theory.proofs.ChoiceLaws.{choose-case}
-use Rattle.theory.proofs.TestLaws.{or-false, same-less}
+use Rattle.theory.proofs.TestLaws.{or-false}
 use Rattle.theory.specs.Bits.{has}
 use Rattle.theory.proofs.BitLaws.{has-power}
-use Rattle.year.specs.Year.{termAt, courseAt, list, lists, isFixed, lowCredits, highCredits, lowCount, highCount}
+use Rattle.year.specs.Year.{termAt, courseAt, list, lists, isFixed}
+use Rattle.year.specs.Bound.{boundOf, bound, opposite, Keeps, beyond, tightened}
 use Rattle.year.specs.Doors.{withSums, withList, withTerm, placed, struck}
-use Rattle.year.specs.Tight.{creditsWithin, countsWithin}
-use Rattle.year.specs.Narrow.{answered, checked, noSuch, placing, barring, placeOf, barOf, tightened, raiseLowCreditsOf, lowerHighCreditsOf, raiseLowCountOf, lowerHighCountOf}
-use Rattle.year.specs.Plans.{Placing, Plan}
-use Rattle.year.specs.Sound.{isSound, Sound}
+use Rattle.year.specs.Narrow.{answered, checked, noSuch, placing, barring, placeOf, barOf, moving, tightenOf}
+use Rattle.year.specs.Plans.{Placing, putIn, Plan}
+use Rattle.year.specs.Sound.{isSound, Sound, TermSound}
 use Rattle.year.specs.Numbers.{narrowingNumber}
+use Rattle.year.specs.declared.Quantity.{Quantity}
+use Rattle.year.specs.declared.Side.{Side}
+use Rattle.year.specs.declared.Term.{Term}
 use Rattle.year.specs.declared.Tight.{Tight}
 use Rattle.year.specs.declared.Year.{Year}
 use Rattle.year.specs.declared.Narrowing.{Narrowing}
 use Rattle.year.specs.declared.Narrowing.the-variants.{Done, Unsound, Missing, Outside, Crossing}
 use Rattle.year.specs.declared.Narrowed.{Narrowed}
+use Rattle.year.proofs.BoundLaws.{tight-beyond, tight-crossed, loose-within}
 use Rattle.year.proofs.SoundLaws.{sound-of, with-sums-same}
-use Rattle.rules.specs.Step.{outcome}
 use Rattle.rules.specs.Narrower.{Narrower}
-use Rattle.rules.proofs.Narrows.{narrower-self}
-use Rattle.rules.proofs.Steps.{OutcomeTighter, credits-tighter, counts-tighter, narrows-put, narrows-struck, narrows-placed}
-use Rattle.rules.proofs.DoorPlans.{credits-plans, counts-plans, placed-plans, struck-plans}
-use Rattle.promises.specs.Narrowings.{Narrow, place, bar, raiseLowCredits, lowerHighCredits, raiseLowCount, lowerHighCount, narrow, Meets, missing, outside, crossing, numberDue, NarrowedBy, EachNarrowing}
+use Rattle.rules.proofs.Narrows.{keeps-then, not-beyond, narrower-self}
+use Rattle.rules.proofs.Steps.{narrows-moved, narrows-struck, narrows-placed}
+use Rattle.rules.proofs.DoorPlans.{moved-plans, placed-plans, struck-plans}
+use Rattle.promises.specs.Narrowings.{Narrow, place, bar, tighten, narrow, Meets, missing, outside, crossing, numberDue, NarrowedBy, EachNarrowing}
 
 -- ---- refused, or done
 
@@ -58,111 +61,44 @@ module _ (y : Year) (n : Narrow) where
       (λ o. h (sound-of y e) m (rw (e, m, o)))))
       (λ e. when-refused Unsound (λ z. omega arith) (rw e))
 
--- ---- bounds
+-- ---- bounds: one law for the four
 
--- bounds that do not cross are put there as a rule puts them
-uncrossed-narrower : (y : Year) (j : ℕ) (w : Tight) → Sound y → j < y .terms → OutcomeTighter (termAt y j) (outcome 0 false (termAt y j) w)
-    → w .crossed ≡ false → Narrower y (withTerm y j (w .term))
-unfolding outcome
-uncrossed-narrower y j w s l tighter c = rw c at (narrows-put y j (outcome 0 false (termAt y j) w) s l tighter .year)
+-- in a sound term it crosses exactly if v passes the opposite bound
+crossed-is : (s : Side) (q : Quantity) (t : Term) (v : ℕ) → TermSound t → tightened s q t v .crossed ≡ beyond s v (boundOf (opposite s) q t)
+crossed-is s q t v o = go (tightened s q t v .crossed) refl (tightened s q t v .altered) refl
+  where
+    go : (c : Bool) → tightened s q t v .crossed ≡ c → (a : Bool) → tightened s q t v .altered ≡ a → c ≡ beyond s v (boundOf (opposite s) q t)
+    go true e a f = sym (tight-crossed s q t v o e)
+    go false e true f = sym (tight-beyond s q t v f e .1)
+    go false e false f = sym (loose-within s q t v o f)
 
-tight-narrows : (y : Year) (n : Narrow) (j : ℕ) (w : Tight) → Sound y → j < y .terms → numberDue y n ≡ choose (w .crossed) 12 0
-    → OutcomeTighter (termAt y j) (outcome 0 false (termAt y j) w) → ((p : Placing) → Plan (withTerm y j (w .term)) p ↔ (Plan y p × Meets y n p))
-    → (w .altered ≡ false → (p : Placing) → Plan y p → Meets y n p) → NarrowedBy y n (tightened y j w)
-tight-narrows y n j w s l due tighter plans still =
-    choose-case (NarrowedBy y n) (w .crossed) (answered Crossing y) (choose (w .altered) (answered Done (withTerm y j (w .term))) (answered Done y))
-    (λ c. when-refused y n Crossing (λ z. omega arith) (rw (due, c)))
-    (λ c.
-    choose-case (NarrowedBy y n) (w .altered) (answered Done (withTerm y j (w .term))) (answered Done y)
-    (λ e. when-done y n (withTerm y j (w .term)) (uncrossed-narrower y j w s l tighter c) plans (rw (due, c)))
-    (λ e. when-done y n y (narrower-self y s) (λ p. (λ h. (h, still e p h), λ h. h .0)) (rw (due, c))))
+module _ (s : Side) (q : Quantity) (y : Year) (j v : ℕ) where
+  abbrev w : Tight
+  w = tightened s q (termAt y j) v
 
--- a low bound raised to v crosses the high bound exactly if v passes it, and is as it was only if it is v or more; and so lowered
-module _ (low high v : ℕ) where
-  raise-crossed : low ≤ high → ltb (min high high) (max low v) ≡ ltb high v
-  raise-crossed h = same-less (min high high) (max low v) high v (λ q. omega arith) (λ q. omega arith)
+  abbrev n : Narrow
+  n = tighten s q j v
 
-  raise-still : ltb low v || ltb high high ≡ false → v ≤ low
-  raise-still e = ltb-false low v (or-false (ltb low v) (ltb high high) e .0)
+  -- no tighter: every plan keeps v
+  kept : w .altered ≡ false → j < y .terms → (p : Placing) → Plan y p → Keeps s v (putIn q y p j)
+  unfolding tightened
+  kept e l p h = keeps-then s v (bound s q y j) (putIn q y p j) (not-beyond s v (bound s q y j) e) (h .bounds s q j l)
 
-  lower-crossed : low ≤ high → ltb (min high v) (max low low) ≡ ltb v low
-  lower-crossed h = same-less (min high v) (max low low) v low (λ q. omega arith) (λ q. omega arith)
+  moving-narrows : Sound y → j < y .terms → numberDue y n ≡ choose (crossing y n) 12 0 → NarrowedBy y n (moving y j w)
+  moving-narrows sound l due =
+      let number : numberDue y n ≡ choose (w .crossed) 12 0 = due ∙ ap (λ b. choose b 12 0) (sym (crossed-is s q (termAt y j) v (sound .term-sound j l))) in
+      choose-case (NarrowedBy y n) (w .crossed) (answered Crossing y) (choose (w .altered) (answered Done (withTerm y j (w .term))) (answered Done y))
+      (λ c. when-refused y n Crossing (λ z. omega arith) (rw (number, c)))
+      (λ c.
+      choose-case (NarrowedBy y n) (w .altered) (answered Done (withTerm y j (w .term))) (answered Done y)
+      (λ e.
+      let t = tight-beyond s q (termAt y j) v e c in
+      when-done y n (withTerm y j (w .term)) (narrows-moved y s q j v sound (l, t .0, t .1) .year) (λ p. moved-plans y s q j v p sound l) (rw (number, c)))
+      (λ e. when-done y n y (narrower-self y sound) (λ p. (λ h. (h, kept e l p h), λ h. h .0)) (rw (number, c))))
 
-  lower-still : ltb low low || ltb v high ≡ false → high ≤ v
-  lower-still e = ltb-false v high (or-false (ltb low low) (ltb v high) e .1)
-
-module _ (y : Year) (j v : ℕ) where
-  raise-low-credits : NarrowedBy y (raiseLowCredits j v) (raiseLowCreditsOf y j v)
-  unfolding raiseLowCreditsOf creditsWithin
-  raise-low-credits =
-      past-refusals y (raiseLowCredits j v) (tightened y j w)
-      (λ s m due.
-      let l : j < y .terms = leb-false (y .terms) j m in
-      let t = s .term-sound j l in
-      tight-narrows y (raiseLowCredits j v) j w s l (due ∙ ap (λ b. choose b 12 0) (sym (raise-crossed (lowCredits y j) (highCredits y j) v (t .credits-ordered))))
-      (credits-tighter 0 false (termAt y j) v (highCredits y j) t)
-      (λ p. (
-        λ h. let g = credits-plans y j v (highCredits y j) p s l .0 h in (g .0, g .1),
-        λ h. credits-plans y j v (highCredits y j) p s l .1 (h .0, h .1, h .0 .credits-high j l),
-      ))
-      (λ e p h. omega (arith, raise-still (lowCredits y j) (highCredits y j) v e, h .credits-low j l)))
-    where
-      w : Tight
-      w = creditsWithin (termAt y j) v (highCredits y j)
-
-  lower-high-credits : NarrowedBy y (lowerHighCredits j v) (lowerHighCreditsOf y j v)
-  unfolding lowerHighCreditsOf creditsWithin
-  lower-high-credits =
-      past-refusals y (lowerHighCredits j v) (tightened y j w)
-      (λ s m due.
-      let l : j < y .terms = leb-false (y .terms) j m in
-      let t = s .term-sound j l in
-      tight-narrows y (lowerHighCredits j v) j w s l (due ∙ ap (λ b. choose b 12 0) (sym (lower-crossed (lowCredits y j) (highCredits y j) v (t .credits-ordered))))
-      (credits-tighter 0 false (termAt y j) (lowCredits y j) v t)
-      (λ p. (
-        λ h. let g = credits-plans y j (lowCredits y j) v p s l .0 h in (g .0, g .2),
-        λ h. credits-plans y j (lowCredits y j) v p s l .1 (h .0, h .0 .credits-low j l, h .1),
-      ))
-      (λ e p h. omega (arith, lower-still (lowCredits y j) (highCredits y j) v e, h .credits-high j l)))
-    where
-      w : Tight
-      w = creditsWithin (termAt y j) (lowCredits y j) v
-
-  raise-low-count : NarrowedBy y (raiseLowCount j v) (raiseLowCountOf y j v)
-  unfolding raiseLowCountOf countsWithin
-  raise-low-count =
-      past-refusals y (raiseLowCount j v) (tightened y j w)
-      (λ s m due.
-      let l : j < y .terms = leb-false (y .terms) j m in
-      let t = s .term-sound j l in
-      tight-narrows y (raiseLowCount j v) j w s l (due ∙ ap (λ b. choose b 12 0) (sym (raise-crossed (lowCount y j) (highCount y j) v (t .count-ordered))))
-      (counts-tighter 0 false (termAt y j) v (highCount y j) t)
-      (λ p. (
-        λ h. let g = counts-plans y j v (highCount y j) p s l .0 h in (g .0, g .1),
-        λ h. counts-plans y j v (highCount y j) p s l .1 (h .0, h .1, h .0 .count-high j l),
-      ))
-      (λ e p h. omega (arith, raise-still (lowCount y j) (highCount y j) v e, h .count-low j l)))
-    where
-      w : Tight
-      w = countsWithin (termAt y j) v (highCount y j)
-
-  lower-high-count : NarrowedBy y (lowerHighCount j v) (lowerHighCountOf y j v)
-  unfolding lowerHighCountOf countsWithin
-  lower-high-count =
-      past-refusals y (lowerHighCount j v) (tightened y j w)
-      (λ s m due.
-      let l : j < y .terms = leb-false (y .terms) j m in
-      let t = s .term-sound j l in
-      tight-narrows y (lowerHighCount j v) j w s l (due ∙ ap (λ b. choose b 12 0) (sym (lower-crossed (lowCount y j) (highCount y j) v (t .count-ordered))))
-      (counts-tighter 0 false (termAt y j) (lowCount y j) v t)
-      (λ p. (
-        λ h. let g = counts-plans y j (lowCount y j) v p s l .0 h in (g .0, g .2),
-        λ h. counts-plans y j (lowCount y j) v p s l .1 (h .0, h .0 .count-low j l, h .1),
-      ))
-      (λ e p h. omega (arith, lower-still (lowCount y j) (highCount y j) v e, h .count-high j l)))
-    where
-      w : Tight
-      w = countsWithin (termAt y j) (lowCount y j) v
+  tightening-narrows : NarrowedBy y n (tightenOf s q y j v)
+  unfolding tightenOf
+  tightening-narrows = past-refusals y n (moving y j w) (λ sound m due. moving-narrows sound (leb-false (y .terms) j m) due)
 
 -- ---- lists
 
@@ -226,10 +162,7 @@ module _ (y : Year) (i j : ℕ) where
 pub each-narrowing : EachNarrowing
 each-narrowing (place i j) y = placing-narrows y i j
 each-narrowing (bar i j) y = barring-narrows y i j
-each-narrowing (raiseLowCredits j v) y = raise-low-credits y j v
-each-narrowing (lowerHighCredits j v) y = lower-high-credits y j v
-each-narrowing (raiseLowCount j v) y = raise-low-count y j v
-each-narrowing (lowerHighCount j v) y = lower-high-count y j v
+each-narrowing (tighten s q j v) y = tightening-narrows s q y j v
 
 pub narrow-narrower : (n : Narrow) (y : Year) → Sound y → Narrower y (narrow n y .year)
 narrow-narrower n y s = each-narrowing n y .narrower s

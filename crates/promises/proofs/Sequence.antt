@@ -12,6 +12,7 @@ use borrow.Author.Tests.{eqb-true}
 use Rattle.theory.specs.Choice.{choose}
 use Rattle.theory.proofs.ChoiceLaws.{choose-case}
 use Rattle.year.specs.Numbers.{narrowingNumber}
+use Rattle.year.specs.Bound.{Keeps}
 use Rattle.year.specs.Plans.{Placing, Plan, thePlacing}
 use Rattle.year.specs.Sound.{isSound, Sound}
 use Rattle.year.proofs.SoundLaws.{sound-of}
@@ -25,8 +26,8 @@ use Rattle.records.proofs.ListLaws.{read-sound}
 use Rattle.records.proofs.WriteRead.{write-read}
 use Rattle.filter.proofs.RoundLaws.{filter-narrower}
 use Rattle.rules.specs.Narrower.{Narrower}
-use Rattle.rules.proofs.Narrows.{narrower-self, narrower-then, credits-in-same, count-in-same}
-use Rattle.promises.specs.Narrowings.{Narrow, place, bar, raiseLowCredits, lowerHighCredits, raiseLowCount, lowerHighCount, narrow, Meets}
+use Rattle.rules.proofs.Narrows.{narrower-self, narrower-then, put-same}
+use Rattle.promises.specs.Narrowings.{Narrow, place, bar, tighten, narrow, Meets}
 use Rattle.promises.specs.Sequence.{Origin, value, records, hours, start, Call, narrowBy, filter, writeAndRead, result, readBack, after, Asks, MeetsAll, PlanThatMeets}
 use Rattle.promises.proofs.Narrowings.{each-narrowing, narrow-narrower}
 use Rattle.promises.proofs.RoundsKept.{filter-kept}
@@ -39,10 +40,9 @@ use Rattle.promises.proofs.JoinedYear.{joined-sound}
 meets-same : (first y : Year) (n : Narrow) (p : Placing) → Narrower first y → Meets y n p ↔ Meets first n p
 meets-same first y (place i j) p a = (λ h. h, λ h. h)
 meets-same first y (bar i j) p a = (λ h. h, λ h. h)
-meets-same first y (raiseLowCredits j v) p a = let e = credits-in-same first y a p j in (λ h. omega arith, λ h. omega arith)
-meets-same first y (lowerHighCredits j v) p a = let e = credits-in-same first y a p j in (λ h. omega arith, λ h. omega arith)
-meets-same first y (raiseLowCount j v) p a = let e = count-in-same first y a p j in (λ h. omega arith, λ h. omega arith)
-meets-same first y (lowerHighCount j v) p a = let e = count-in-same first y a p j in (λ h. omega arith, λ h. omega arith)
+meets-same first y (tighten s q j v) p a =
+    let e = put-same first y a q p j in
+    (λ h. subst (Keeps s v) e h, λ h. subst (Keeps s v) (sym e) h)
 
 -- what was written reads back to the same year
 read-back : (y : Year) (b : List ℕ) → Sound y → readBack y b ≡ y

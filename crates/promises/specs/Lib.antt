@@ -20,4 +20,5 @@ pub mod SumsKept
 pub mod ByHand
 pub mod SpareRoom
 pub mod SizesTried
+pub mod Reasons
 pub mod Promises

@@ -1,15 +1,18 @@
 -- The six narrowings: what each makes of a year, what it asks of a placing, which number it is due; and what is promised of each.
-use Prim.Native.Nat.{ℕ, _^_, _≤_}
+use Prim.Native.Nat.{ℕ, _^_}
 use mathlib.Core.Bool.{Bool, false, not, _||_}
 use mathlib.Core.Logic.{_↔_}
 use mathlib.Core.Path.{_≡_}
 use lib.Dec.{eqb, leb, ltb}
 use Rattle.theory.specs.Choice.{choose}
-use Rattle.year.specs.Year.{courseAt, list, lists, lowCredits, highCredits, lowCount, highCount}
-use Rattle.year.specs.Narrow.{placeOf, barOf, raiseLowCreditsOf, lowerHighCreditsOf, raiseLowCountOf, lowerHighCountOf}
-use Rattle.year.specs.Plans.{Placing, creditsIn, countIn, Plan}
+use Rattle.year.specs.Year.{courseAt, list, lists}
+use Rattle.year.specs.Bound.{bound, largestBound, opposite, Keeps, beyond}
+use Rattle.year.specs.Narrow.{placeOf, barOf, tightenOf}
+use Rattle.year.specs.Plans.{Placing, putIn, Plan}
 use Rattle.year.specs.Sound.{isSound, Sound}
 use Rattle.year.specs.Numbers.{narrowingNumber}
+use Rattle.year.specs.declared.Quantity.{Quantity}
+use Rattle.year.specs.declared.Side.{Side}
 use Rattle.year.specs.declared.Year.{Year}
 use Rattle.year.specs.declared.Narrowed.{Narrowed}
 use Rattle.rules.specs.Narrower.{Narrower}
@@ -19,24 +22,18 @@ use Rattle.rules.specs.Narrower.{Narrower}
 -- place course i in term j; bar course i from term j; raise or lower a bound of term j to v
 pub data Narrow : Type 0 where
   place bar : ℕ → ℕ → Narrow
-  raiseLowCredits lowerHighCredits raiseLowCount lowerHighCount : ℕ → ℕ → Narrow
+  tighten : Side → Quantity → ℕ → ℕ → Narrow
 
 abbrev pub narrow : Narrow → Year → Narrowed
 narrow (place i j) y = placeOf y i j
 narrow (bar i j) y = barOf y i j
-narrow (raiseLowCredits j v) y = raiseLowCreditsOf y j v
-narrow (lowerHighCredits j v) y = lowerHighCreditsOf y j v
-narrow (raiseLowCount j v) y = raiseLowCountOf y j v
-narrow (lowerHighCount j v) y = lowerHighCountOf y j v
+narrow (tighten s q j v) y = tightenOf s q y j v
 
 -- a placing of the courses of y meets a narrowing
 abbrev pub Meets : Year → Narrow → Placing → Type 0
 Meets y (place i j) p = p i ≡ j
 Meets y (bar i j) p = p i ≡ j → ⊥
-Meets y (raiseLowCredits j v) p = v ≤ creditsIn y p j
-Meets y (lowerHighCredits j v) p = creditsIn y p j ≤ v
-Meets y (raiseLowCount j v) p = v ≤ countIn y p j
-Meets y (lowerHighCount j v) p = countIn y p j ≤ v
+Meets y (tighten s q j v) p = Keeps s v (putIn q y p j)
 
 -- ---- the numbers of the answers, as the paper's table has them
 
@@ -44,28 +41,19 @@ Meets y (lowerHighCount j v) p = countIn y p j ≤ v
 abbrev pub missing : Year → Narrow → Bool
 missing y (place i j) = leb (y .courses) i || leb (y .terms) j
 missing y (bar i j) = leb (y .courses) i || leb (y .terms) j
-missing y (raiseLowCredits j v) = leb (y .terms) j
-missing y (lowerHighCredits j v) = leb (y .terms) j
-missing y (raiseLowCount j v) = leb (y .terms) j
-missing y (lowerHighCount j v) = leb (y .terms) j
+missing y (tighten s q j v) = leb (y .terms) j
 
 -- 11: a bound outside the sizes
 abbrev pub outside : Narrow → Bool
 outside (place i j) = false
 outside (bar i j) = false
-outside (raiseLowCredits j v) = ltb 64000 v
-outside (lowerHighCredits j v) = ltb 64000 v
-outside (raiseLowCount j v) = ltb 64 v
-outside (lowerHighCount j v) = ltb 64 v
+outside (tighten s q j v) = ltb (largestBound q) v
 
 -- 12: it would place a course in a term that its list lacks, empty a term list, or cross a pair of bounds
 abbrev pub crossing : Year → Narrow → Bool
 crossing y (place i j) = not (lists (courseAt y i) j)
 crossing y (bar i j) = eqb (list y i) (2 ^ j)
-crossing y (raiseLowCredits j v) = ltb (highCredits y j) v
-crossing y (lowerHighCredits j v) = ltb v (lowCredits y j)
-crossing y (raiseLowCount j v) = ltb (highCount y j) v
-crossing y (lowerHighCount j v) = ltb v (lowCount y j)
+crossing y (tighten s q j v) = beyond s v (bound (opposite s) q y j)
 
 -- 8 first, then in rising number; 0 where it is done
 abbrev pub numberDue : Year → Narrow → ℕ

@@ -12,7 +12,7 @@ use Rattle.year.specs.Examples.{yearOf, yearE}
 use Rattle.year.specs.declared.Year.{Year}
 use Rattle.records.specs.Numbers.{readingNumber}
 use Rattle.records.specs.Reading.{readList}
-use Rattle.rules.specs.Examples.{six, seven, three, leastCount, largestQuotient}
+use Rattle.rules.specs.Examples.{six, seven, three, countBy6, largestQuotient}
 use Rattle.filter.specs.Filter.{filterOf}
 use Rattle.filter.specs.Numbers.{filterNumber, filterRule, filterRounds, isSettled}
 use Rattle.filter.specs.declared.Filtered.{Filtered}
@@ -79,8 +79,8 @@ table =
     -- 5. the same with 0-5: settled, 2 rounds
     ∷ row (numbersOf (filterOf (yearOf (termOf 0 5 0 1 ∷ []) (courseOf 5 1 ∷ [])))) (0 ∷ 1 ∷ 0 ∷ 2 ∷ 5 ∷ 5 ∷ 1 ∷ 1 ∷ 5 ∷ 1 ∷ [])
     -- 6 and 7. least counts
-    ∷ row (leastCount six ∷ []) (4 ∷ [])
-    ∷ row (leastCount seven ∷ []) (3 ∷ [])
+    ∷ row (countBy6 six ∷ []) (4 ∷ [])
+    ∷ row (countBy6 seven ∷ []) (3 ∷ [])
     -- 8 and 9. largest rounded quotients
     ∷ row (largestQuotient (three 6) ∷ []) (3 ∷ [])
     ∷ row (largestQuotient (three 5) ∷ []) (2 ∷ [])

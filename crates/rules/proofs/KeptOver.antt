@@ -2,7 +2,7 @@
 use Prim.Native.Nat.{ℕ, _≤_, _<_}
 use mathlib.Core.Path.{_≡_, refl}
 use native.Mathlib.Omega.{arith}
-use native.Mathlib.Nat.{le-refl}
+use native.Mathlib.Nat.{le-refl, le-of-eq}
 use lib.Dec.{eqb}
 use borrow.Author.Tests.{eqb-true}
 use Rattle.theory.proofs.ChoiceLaws.{choose-case}
@@ -12,7 +12,7 @@ use Rattle.year.specs.Sound.{Sound}
 use Rattle.year.specs.declared.Year.{Year}
 use Rattle.rules.specs.Step.{goes, joined, then, live, dead, next, overTo, overTerms, Step}
 use Rattle.rules.specs.Narrower.{Narrower}
-use Rattle.rules.proofs.Narrows.{narrower-self, narrower-then, Narrows}
+use Rattle.rules.proofs.Narrows.{narrower-self, narrower-then, Narrows, narrows-over}
 use Rattle.rules.proofs.PlansKept.{PlansKept}
 
 -- nothing is done
@@ -58,3 +58,8 @@ kept-terms f kept narrows y s sound a =
     kept-over f (Narrower (s .year)) (s .year .terms) (λ z k i l. kept z k (i .sound) (omega (arith, i .terms-same)))
     (λ z k i l. narrower-then (s .year) z (f z k .year) i (narrows z k (i .sound) (omega (arith, i .terms-same)) .year))
     y s a (narrower-self (s .year) sound) (s .year .terms) (le-refl (s .year .terms)) .0
+
+-- a rule over the terms of the year that the rules before it left
+pub narrows-terms : (f : Year → ℕ → Step) (y : Year) (s : Step) → AtTerms Narrows f → Narrows y s → Narrows y (overTerms f s)
+narrows-terms f y s law a =
+    narrows-over f (y .terms) y s (λ z k b t c l. law z k b (omega arith)) a (s .year .terms) (le-of-eq (a .year .terms-same))

@@ -1,95 +1,77 @@
--- Rules 3 and 10 keep exactly the plans, course by course and so at a term.
-use Prim.Native.Nat.{ℕ, _+_, _-_, _^_, _<_}
+-- Rules 3 and 10 narrow and keep exactly the plans, course by course and so at a term.
+use Prim.Native.Nat.{ℕ, _+_, _-_, _^_, _≤_, _<_}
 use mathlib.Core.Bool.{Bool, true, false, _||_, true≢false}
-use mathlib.Core.Path.{_≡_, refl, sym, ap, ap₂, _∙_}
+use mathlib.Core.Path.{_≡_, refl, sym, ap, subst, _∙_}
 use native.Mathlib.Omega.{arith}
 use native.Mathlib.Nat.{le-refl}
 use native.Mathlib.Decide.{ℕ-discrete}
-use lib.Dec.{eqb, ltb}
-use borrow.Author.Tests.{eqb-true, eq-eqb, ltb-true, le-ltb}
+use lib.Dec.{eqb}
+use borrow.Author.Tests.{eqb-true, eq-eqb, ne-eqb}
 use Rattle.theory.specs.Choice.{choose}
 use Rattle.theory.proofs.ChoiceLaws.{choose-case}
+use Rattle.theory.proofs.FoldLaws.{fold-keeps}
 use Rattle.theory.specs.Sum.{pick}
-use Rattle.theory.proofs.SumLaws.{sum-cong}
+use Rattle.theory.proofs.SumLaws.{sum-cong, sum-term-le}
 use Rattle.theory.specs.Bits.{has}
 use Rattle.theory.proofs.BitLaws.{has-power, has-struck}
-use Rattle.year.specs.Year.{courseAt, weight, list, lists, isFixed, isOpen, lowCredits, highCredits, lowCount, highCount}
+use Rattle.year.specs.Year.{courseAt, list, lists, isFixed, isOpen, lowCount, highCount}
 use Rattle.year.specs.Doors.{placed, struck}
-use Rattle.year.specs.Sums.{fixedCredits, possibleCredits, fixedCount, openCount}
-use Rattle.year.specs.Plans.{Placing, Plan}
+use Rattle.year.specs.Sums.{fixedCount, openCount}
 use Rattle.year.specs.Sound.{Sound}
+use Rattle.year.specs.declared.Quantity.the-variants.{Counts}
 use Rattle.year.specs.declared.Year.{Year}
 use Rattle.year.proofs.DoorLaws.{list-same, list-other}
-use Rattle.rules.specs.Step.{live, dead, judged, overCourses}
-use Rattle.rules.specs.Lists.{verdict3, rule3Course, rule3, full, needed, verdict10, rule10Course, rule10}
+use Rattle.rules.specs.Step.{rests, fails, live, dead, applied, ruled, judged, goes, then, overTo, overCourses, Step}
+use Rattle.rules.specs.Lists.{verdictAt3, rule3Course, rule3, overfull, short, full, needed, verdict10, rule10Course, rule10}
+use Rattle.rules.specs.Facts.{never, theFixed}
+use Rattle.rules.specs.Reasons.{reason, basisRoom, basisNeed, reason3, reason10, reason10Course}
 use Rattle.rules.specs.declared.Verdict.{Verdict}
 use Rattle.rules.specs.declared.Verdict.the-variants.{Stays, Struck, Fixed}
-use Rattle.rules.proofs.Steps.{lawful-3, lawful-10}
-use Rattle.rules.proofs.PlansKept.{PlansKept}
-use Rattle.rules.proofs.KeptOver.{kept-rest, kept-dead, kept-over}
-use Rattle.rules.specs.Narrower.{Narrower}
-use Rattle.rules.proofs.Narrows.{narrower-self, narrower-then}
-use Rattle.rules.proofs.DoorPlans.{placed-plans, struck-plans}
-use Rattle.rules.proofs.PlanSums.{open-facts, credits-with, credits-without, count-floor, count-roof, count-with, count-without, count-halves}
+use Rattle.rules.proofs.PlanSums.{open-facts, count-halves}
+use Rattle.rules.proofs.Narrows.{narrows-rest, narrows-then}
+use Rattle.rules.proofs.PlansKept.{Held}
+use Rattle.rules.proofs.KeptOver.{kept-rest, kept-then, AtTerms}
+use Rattle.rules.proofs.ReasonsGood.{good3, good10, good10-course}
+use Rattle.rules.proofs.ReasonsKept.{good-held}
 
--- ---- one course
+-- ---- a verdict is a change under any rule
 
-module _ (z : Year) (i j : ℕ) (s : Sound z) (l : i < z .courses) (o : isOpen (courseAt z i) j ≡ true) where
-  -- no plan puts the course into j
-  struck-kept : ((p : Placing) → Plan z p → p i ≡ j → ⊥) → PlansKept z (judged z i j Struck)
-  struck-kept h =
-      let e = open-facts (courseAt z i) j o .0 in
-      record {
-        none-lost = λ r p q. struck-plans z i j p s l e .1 (q, h p q);
-        none-new = λ r p q. struck-plans z i j p s l e .0 q .0;
-        no-plan = λ n p q. n refl;
-      }
+pub judged-is : (r : ℕ) (y : Year) (i j : ℕ) (v : Verdict) → judged y i j v ≡ applied r y (ruled i j v)
+judged-is r y i j Stays = refl
+judged-is r y i j Struck = refl
+judged-is r y i j Fixed = refl
 
-  -- every plan puts it there: no plan puts it elsewhere
-  fixed-kept : ((p : Placing) → Plan z p → (p i ≡ j → ⊥) → ⊥) → PlansKept z (judged z i j Fixed)
-  fixed-kept h =
-      let e = open-facts (courseAt z i) j o .0 in
-      record {
-        none-lost = λ r p q. placed-plans z i j p s l e .1 (q, there p q (ℕ-discrete (p i) j));
-        none-new = λ r p q. placed-plans z i j p s l e .0 q .0;
-        no-plan = λ n p q. n refl;
-      }
-    where
-      there : (p : Placing) → Plan z p → Dec (p i ≡ j) → p i ≡ j
-      there p q (yes e) = e
-      there p q (no d) = absurd (h p q d)
+-- ---- over the courses
+
+-- each step is held to it on years of these sizes that meet a condition, which it leaves true
+module _ (y : Year) (f : Year → ℕ → Step) (If : Year → Type 0)
+    (step : (z : Year) (i : ℕ) → Sound z → z .terms ≡ y .terms → z .courses ≡ y .courses → If z → i < y .courses → Held z (f z i) × If (f z i .year)) where
+  -- so it is before course n
+  over-to : Sound y → If y → (n : ℕ) → n ≤ y .courses → Held y (overTo f (live y) n) × If (overTo f (live y) n .year)
+  over-to s a n m =
+      fold-keeps goes (then f) (live y) (λ t. Held y t × If (t .year)) n
+      (λ t i l e b.
+      let w = b .0 .0 .year in
+      let h = step (t .year) i (w .sound) (w .terms-same) (w .courses-same) (b .1) (omega arith) in (
+        (narrows-then y t (f (t .year) i) (b .0 .0) (h .0 .0), kept-then y t (f (t .year) i) (eqb-true (t .rule) 0 e) (b .0 .1) (h .0 .1)),
+        h .1,
+      ))
+      ((narrows-rest y 0 s, kept-rest y), a)
+
+  over-held : Sound y → If y → Held y (overCourses f (live y))
+  over-held s a = over-to s a (y .courses) (le-refl (y .courses)) .0
 
 -- ---- rule 3
 
-module _ (z : Year) (i j : ℕ) (s : Sound z) (l : i < z .courses) (m : j < z .terms) where
-  course3-kept : PlansKept z (rule3Course j z i)
-  unfolding rule3Course verdict3
-  course3-kept =
-      choose-case keeps (isOpen (courseAt z i) j)
-      (choose (ltb (highCredits z j) (fixedCredits z j + weight z i)) Struck (choose (ltb (possibleCredits z j - weight z i) (lowCredits z j)) Fixed Stays)) Stays
-      (λ o.
-      choose-case keeps (ltb (highCredits z j) (fixedCredits z j + weight z i)) Struck (choose (ltb (possibleCredits z j - weight z i) (lowCredits z j)) Fixed Stays)
-      (λ e.
-      struck-kept z i j s l o
-      (λ p q r. omega (arith, ltb-true (highCredits z j) (fixedCredits z j + weight z i) e, credits-with z p q j i l o r, q .credits-high j m)))
-      (λ e.
-      choose-case keeps (ltb (possibleCredits z j - weight z i) (lowCredits z j)) Fixed Stays
-      (λ f.
-      fixed-kept z i j s l o
-      (λ p q d. omega (arith, ltb-true (possibleCredits z j - weight z i) (lowCredits z j) f, credits-without z p q j i l o d, q .credits-low j m)))
-      (λ f. kept-rest z)))
-      (λ o. kept-rest z)
-    where
-      keeps : Verdict → Type 0
-      keeps v = PlansKept z (judged z i j v)
-
-pub rule3-kept : (y : Year) (j : ℕ) → Sound y → j < y .terms → PlansKept y (rule3 y j)
-unfolding rule3
-rule3-kept y j s l =
-    kept-over (rule3Course j) (Narrower y) (y .courses)
-    (λ z i a h. course3-kept z i j (a .sound) (omega arith) (omega arith))
-    (λ z i a h. narrower-then y z (rule3Course j z i .year) a (lawful-3 (y .terms) (y .courses) j l z i (a .sound) (a .terms-same) (a .courses-same) h .year))
-    y (live y) (kept-rest y) (narrower-self y s) (y .courses) (le-refl (y .courses)) .0
+pub rule3-held : AtTerms Held rule3
+unfolding rule3 rule3Course
+rule3-held y j s l =
+    over-held y (rule3Course j) (λ z. Unit {0})
+    (λ z i a t c u h. (
+      subst (Held z) (sym (judged-is 3 z i j (verdictAt3 z j i)))
+          (good-held 3 z a (λ e. omega arith) (reason3 z j i) (good3 z j (omega arith) i (omega arith))),
+      tt,
+    )) s tt
 
 -- ---- rule 10
 
@@ -97,7 +79,7 @@ rule3-kept y j s l =
 abbrev Asked : Bool → Bool → ℕ → Year → Type 0
 Asked true n j z = fixedCount z j ≡ highCount z j
 Asked false true j z = fixedCount z j + openCount z j ≡ lowCount z j
-Asked false false j z = Unit {0}
+Asked false false j z = (full z j ≡ false) × (needed z j ≡ false)
 
 module _ (z : Year) (i j : ℕ) (s : Sound z) (l : i < z .courses) (o : isOpen (courseAt z i) j ≡ true) where
   -- a course struck from j was not fixed there and is not
@@ -137,39 +119,78 @@ module _ (z : Year) (i j : ℕ) (s : Sound z) (l : i < z .courses) (o : isOpen (
       go a (no d) = ap (λ x. has x j) (list-other z i (2 ^ j) a d)
 
 module _ (z : Year) (i j : ℕ) (s : Sound z) (l : i < z .courses) (m : j < z .terms) where
-  course10 : (f n : Bool) → Asked f n j z → PlansKept z (rule10Course f n j z i) × Asked f n j (rule10Course f n j z i .year)
-  unfolding rule10Course verdict10
-  course10 f n a = choose-case (holds f n) (isOpen (courseAt z i) j) (choose f Struck (choose n Fixed Stays)) Stays (λ o. go f n a o) (λ o. (kept-rest z, a))
+  -- so what was read then would be read now
+  read-again : (f n : Bool) → Asked f n j z → verdict10 f n (courseAt z i) j ≡ verdict10 (full z j) (needed z j) (courseAt z i) j
+  unfolding verdict10 openCount
+  read-again f n a = go (isOpen (courseAt z i) j) refl f n a
     where
-      holds : Bool → Bool → Verdict → Type 0
-      holds f n v = PlansKept z (judged z i j v) × Asked f n j (judged z i j v .year)
+      go : (o : Bool) → isOpen (courseAt z i) j ≡ o → (f n : Bool) → Asked f n j z
+          → choose o (choose f Struck (choose n Fixed Stays)) Stays ≡ choose o (choose (full z j) Struck (choose (needed z j) Fixed Stays)) Stays
+      go false o f n a = refl
+      go true o true n a = rw (eq-eqb (fixedCount z j) (highCount z j) a) refl
+      go true o false true a =
+          let some = sum-term-le (z .courses) i (λ k. pick (isOpen (courseAt z k) j) 1) l in
+          let one : pick (isOpen (courseAt z i) j) 1 ≡ 1 = ap (λ b. pick b 1) o in
+          let b = s .term-sound j m .count-ordered in
+          rw (ne-eqb (fixedCount z j) (highCount z j) (λ e. omega arith), eq-eqb (fixedCount z j + openCount z j) (lowCount z j) a) refl
+      go true o false false a = rw (a .0, a .1) refl
 
-      go : (f n : Bool) → Asked f n j z → isOpen (courseAt z i) j ≡ true → holds f n (choose f Struck (choose n Fixed Stays))
-      go true n a o = (struck-kept z i j s l o (λ p q r. omega (arith, a, count-with z p q j i l o r, q .count-high j m)), fixed-struck z i j s l o ∙ a)
-      go false true a o = (fixed-kept z i j s l o (λ p q d. omega (arith, a, count-without z p q j i l o d, q .count-low j m)), both-placed z i j s l o ∙ a)
-      go false false a o = (kept-rest z, a)
+  asked-stays : (f n : Bool) → Asked f n j z → Asked f n j (judged z i j (verdict10 f n (courseAt z i) j) .year)
+  unfolding verdict10
+  asked-stays f n a = choose-case (λ v. Asked f n j (judged z i j v .year)) (isOpen (courseAt z i) j) (choose f Struck (choose n Fixed Stays)) Stays (λ o. go f n a o) (λ o. a)
+    where
+      go : (f n : Bool) → Asked f n j z → isOpen (courseAt z i) j ≡ true → Asked f n j (judged z i j (choose f Struck (choose n Fixed Stays)) .year)
+      go true n a o = fixed-struck z i j s l o ∙ a
+      go false true a o = both-placed z i j s l o ∙ a
+      go false false a o = a
+
+  course10 : (f n : Bool) → Asked f n j z → Held z (rule10Course f n j z i) × Asked f n j (rule10Course f n j z i .year)
+  unfolding rule10Course
+  course10 f n a = (
+    subst (Held z) (sym (ap (judged z i j) (read-again f n a) ∙ judged-is 10 z i j (verdict10 (full z j) (needed z j) (courseAt z i) j)))
+        (good-held 10 z s (λ e. omega arith) (reason10Course z j i) (good10-course z j m i l)),
+    asked-stays f n a,
+  )
 
 asked-first : (y : Year) (j : ℕ) (f n : Bool) → full y j ≡ f → needed y j ≡ n → Asked f n j y
 asked-first y j true n a b = eqb-true (fixedCount y j) (highCount y j) a
 asked-first y j false true a b = eqb-true (fixedCount y j + openCount y j) (lowCount y j) b
-asked-first y j false false a b = tt
+asked-first y j false false a b = (a, b)
 
-pub rule10-kept : (y : Year) (j : ℕ) → Sound y → j < y .terms → PlansKept y (rule10 y j)
+-- an overfull term, or a short one, has no plan
+none-10 : (y : Year) (j : ℕ) → Sound y → j < y .terms → overfull y j || short y j ≡ true → Held y (dead 10 y)
+none-10 y j s l = go (overfull y j) (short y j) (good-held 10 y s (λ e. omega arith) (reason10 y j) (good10 y j l))
+  where
+    go : (a b : Bool) → Held y (applied 10 y (choose a (reason fails (basisRoom Counts j)) (choose b (reason fails (basisNeed Counts j)) (reason rests (theFixed never))) .change))
+        → a || b ≡ true → Held y (dead 10 y)
+    go true b h e = h
+    go false true h e = h
+    go false false h e = absurd (true≢false (sym e))
+
+-- what was read holds before each course
+over-10 : (y : Year) (j : ℕ) → Sound y → j < y .terms → (n : ℕ) → n ≤ y .courses
+    → let t = overTo (rule10Course (full y j) (needed y j) j) (live y) n in
+    Held y t × Asked (full y j) (needed y j) j (t .year)
+over-10 y j s l =
+    over-to y (rule10Course (full y j) (needed y j) j) (Asked (full y j) (needed y j) j)
+    (λ z i a t c u h. course10 z i j a (omega arith) (omega arith) (full y j) (needed y j) u)
+    s (asked-first y j (full y j) (needed y j) refl refl)
+
+-- what rule 10 reads once for the term is what it would read anew for each course
+pub rule10-again : (y : Year) (j : ℕ) → Sound y → j < y .terms → (i : ℕ) → i < y .courses
+    → let f = rule10Course (full y j) (needed y j) j in
+    let z = overTo f (live y) i .year in
+    f z i ≡ applied 10 z (reason10Course z j i .change)
+unfolding rule10Course
+rule10-again y j s l i h =
+    let at = over-10 y j s l i (omega arith) in
+    let z = overTo (rule10Course (full y j) (needed y j) j) (live y) i .year in
+    let w = at .0 .0 .year in
+    ap (judged z i j) (read-again z i j (w .sound) (omega (arith, w .courses-same)) (omega (arith, w .terms-same)) (full y j) (needed y j) (at .1))
+    ∙ judged-is 10 z i j (verdict10 (full z j) (needed z j) (courseAt z i) j)
+
+pub rule10-held : AtTerms Held rule10
 unfolding rule10
-rule10-kept y j s l =
-    choose-case (PlansKept y) (ltb (highCount y j) (fixedCount y j) || ltb (fixedCount y j + openCount y j) (lowCount y j)) (dead 10 y)
-    (overCourses (rule10Course (full y j) (needed y j) j) (live y))
-    (λ e.
-    kept-dead y 10 (λ z. omega arith)
-    (λ p q. true≢false (sym e ∙ ap₂ _||_
-    (le-ltb (highCount y j) (fixedCount y j) (omega (arith, count-floor y p q j, q .count-high j l)))
-    (le-ltb (fixedCount y j + openCount y j) (lowCount y j) (omega (arith, count-roof y p q j, q .count-low j l))))))
-    (λ e.
-    kept-over (rule10Course (full y j) (needed y j) j) (λ z. Narrower y z × Asked (full y j) (needed y j) j z) (y .courses)
-    (λ z i a h. course10 z i j (a .0 .sound) (omega (arith, a .0)) (omega (arith, a .0)) (full y j) (needed y j) (a .1) .0)
-    (λ z i a h. (
-      narrower-then y z (rule10Course (full y j) (needed y j) j z i .year) (a .0)
-          (lawful-10 (y .terms) (y .courses) j (full y j) (needed y j) l z i (a .0 .sound) (a .0 .terms-same) (a .0 .courses-same) h .year),
-      course10 z i j (a .0 .sound) (omega (arith, a .0)) (omega (arith, a .0)) (full y j) (needed y j) (a .1) .1,
-    ))
-    y (live y) (kept-rest y) (narrower-self y s, asked-first y j (full y j) (needed y j) refl refl) (y .courses) (le-refl (y .courses)) .0)
+rule10-held y j s l =
+    choose-case (Held y) (overfull y j || short y j) (dead 10 y) (overCourses (rule10Course (full y j) (needed y j) j) (live y)) (none-10 y j s l)
+    (λ e. over-10 y j s l (y .courses) (le-refl (y .courses)) .0)

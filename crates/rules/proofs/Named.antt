@@ -1,30 +1,29 @@
 -- The rule that a no plan names is the one that found it: pass k of a round names rule k alone, so a round names none past the last.
 use Prim.Native.Nat.{ℕ, suc, _+_, _/_, _≤_}
-use mathlib.Core.Bool.{Bool, _||_}
+use mathlib.Core.Bool.{Bool, _&&_, _||_}
 use mathlib.Core.List.{List, [], _∷_}
 use mathlib.Core.Logic.{_⊎_, inl, inr}
 use mathlib.Core.Path.{_≡_, refl, sym, subst}
 use native.Mathlib.Omega.{arith}
-use lib.Dec.{eqb, ltb}
+use lib.Dec.{eqb}
 use lib.ListN.{length}
 use Rattle.theory.specs.Choice.{choose}
 use Rattle.theory.specs.Tests.{any}
 use Rattle.theory.proofs.ChoiceLaws.{choose-case}
 use Rattle.theory.proofs.FoldLaws.{fold-keeps}
-use Rattle.year.specs.Year.{termAt, courseAt, lowCount, highCount}
-use Rattle.year.specs.Sums.{fixedCredits, possibleCredits, fixedCount, openCount}
-use Rattle.year.specs.declared.Term.{Term}
-use Rattle.year.specs.declared.Tight.{Tight}
+use Rattle.year.specs.Year.{courseAt}
+use Rattle.year.specs.declared.Quantity.the-variants.{Credits, Counts}
+use Rattle.year.specs.declared.Side.{Side}
+use Rattle.year.specs.declared.Side.the-variants.{Low, High}
 use Rattle.year.specs.declared.Year.{Year}
-use Rattle.rules.specs.declared.Outcome.{Outcome}
 use Rattle.rules.specs.declared.Verdict.{Verdict}
 use Rattle.rules.specs.declared.Verdict.the-variants.{Stays, Struck, Fixed}
-use Rattle.rules.specs.Step.{goes, then, live, dead, outcome, judged, overTo, joined, Step}
-use Rattle.rules.specs.Bounds.{rule1, rule2, rule4, rule5}
-use Rattle.rules.specs.Lists.{verdict3, rule3, rule3Course, full, needed, verdict10, rule10, rule10Course}
-use Rattle.rules.specs.Spares.{rule6, rule7, rule8, rule9}
+use Rattle.rules.specs.Step.{Change, rests, moves, strikes, fixes, crosses, fails, applied, goes, then, live, dead, judged, raiseLower, overTo, joined, Step}
+use Rattle.rules.specs.Bounds.{ownSums, rule1, rule4, otherTerms, rule2, rule5}
+use Rattle.rules.specs.Lists.{verdictAt3, rule3, rule3Course, overfull, short, full, needed, verdict10, rule10, rule10Course}
+use Rattle.rules.specs.Spares.{leastCount, mostCount, leastLoad, mostLoad, rule6, rule7, rule8, rule9}
 use Rattle.rules.specs.Packing.{burst, room, bursts, rule11}
-use Rattle.rules.specs.Round.{bounded, passes, inRow, round}
+use Rattle.rules.specs.Round.{passes, inRow, round}
 use Rattle.rules.proofs.Passes.{Pass, Each, _also_, lawful}
 
 -- ---- at a term
@@ -33,9 +32,13 @@ use Rattle.rules.proofs.Passes.{Pass, Each, _also_, lawful}
 abbrev pub By : ℕ → ℕ → Type 0
 By r named = (named ≡ 0) ⊎ (named ≡ r)
 
-outcome-by : (r : ℕ) (fails : Bool) (t : Term) (w : Tight) → By r (outcome r fails t w .rule)
-unfolding outcome
-outcome-by r fails t w = choose-case (λ (o : Outcome). By r (o .rule)) (fails || w .crossed) _ _ (λ e. inr refl) (λ e. inl refl)
+applied-by : (r : ℕ) (y : Year) (c : Change) → By r (applied r y c .rule)
+applied-by r y rests = inl refl
+applied-by r y (moves s q j n) = inl refl
+applied-by r y (strikes i j) = inl refl
+applied-by r y (fixes i j) = inl refl
+applied-by r y (crosses s q j) = inr refl
+applied-by r y fails = inr refl
 
 judged-by : (r : ℕ) (y : Year) (i j : ℕ) (v : Verdict) → By r (judged y i j v .rule)
 judged-by r y i j Stays = inl refl
@@ -45,6 +48,12 @@ judged-by r y i j Fixed = inl refl
 choose-by : (r : ℕ) (b : Bool) (s t : Step) → By r (s .rule) → By r (t .rule) → By r (choose b s t .rule)
 choose-by r b s t x z = choose-case (λ (u : Step). By r (u .rule)) b s t (λ e. x) (λ e. z)
 
+-- raise, then lower
+both-by : (r : ℕ) (f : Side → Year → ℕ → Change) (y : Year) (j : ℕ) → By r (raiseLower r f y j .rule)
+both-by r f y j =
+    let s : Step = applied r y (f Low y j) in
+    choose-by r (goes s && goes (applied r (s .year) (f High (s .year) j))) _ (dead r y) (applied-by r (s .year) (f High (s .year) j)) (inr refl)
+
 over-by : (r : ℕ) (f : Year → ℕ → Step) → ((y : Year) (k : ℕ) → By r (f y k .rule)) → (y : Year) (n : ℕ) → By r (overTo f (live y) n .rule)
 over-by r f h y n = fold-keeps goes (then f) (live y) (λ (s : Step). By r (s .rule)) n (λ z k l g b. h (z .year) k) (inl refl)
 
@@ -53,45 +62,29 @@ over-by r f h y n = fold-keeps goes (then f) (live y) (λ (s : Step). By r (s .r
 abbrev pub Names : ℕ → (Step → Step) → Type 0
 Names r p = (y : Year) → By r (p (live y) .rule)
 
-by-1 : (y : Year) (j : ℕ) → By 1 (bounded rule1 y j .rule)
+by-1 : (y : Year) (j : ℕ) → By 1 (rule1 y j .rule)
 unfolding rule1
-by-1 y j = outcome-by 1 _ _ _
+by-1 = both-by 1 (ownSums Credits)
 
-by-2 : (y : Year) (j : ℕ) → By 2 (bounded rule2 y j .rule)
+by-2 : (y : Year) (j : ℕ) → By 2 (rule2 y j .rule)
 unfolding rule2
-by-2 y j = outcome-by 2 _ _ _
+by-2 = both-by 2 (otherTerms Credits)
+
+by-4 : (y : Year) (j : ℕ) → By 4 (rule4 y j .rule)
+unfolding rule4
+by-4 = both-by 4 (ownSums Counts)
+
+by-5 : (y : Year) (j : ℕ) → By 5 (rule5 y j .rule)
+unfolding rule5
+by-5 = both-by 5 (otherTerms Counts)
 
 course-3 : (j : ℕ) (y : Year) (i : ℕ) → By 3 (rule3Course j y i .rule)
 unfolding rule3Course
-course-3 j y i = judged-by 3 y i j (verdict3 (courseAt y i) (termAt y j) (fixedCredits y j) (possibleCredits y j) j)
+course-3 j y i = judged-by 3 y i j (verdictAt3 y j i)
 
 by-3 : (y : Year) (j : ℕ) → By 3 (rule3 y j .rule)
 unfolding rule3
 by-3 y j = over-by 3 (rule3Course j) (course-3 j) y (y .courses)
-
-by-4 : (y : Year) (j : ℕ) → By 4 (bounded rule4 y j .rule)
-unfolding rule4
-by-4 y j = outcome-by 4 _ _ _
-
-by-5 : (y : Year) (j : ℕ) → By 5 (bounded rule5 y j .rule)
-unfolding rule5
-by-5 y j = outcome-by 5 _ _ _
-
-by-6 : (y : Year) (j : ℕ) → By 6 (bounded rule6 y j .rule)
-unfolding rule6
-by-6 y j = outcome-by 6 _ _ _
-
-by-7 : (y : Year) (j : ℕ) → By 7 (bounded rule7 y j .rule)
-unfolding rule7
-by-7 y j = outcome-by 7 _ _ _
-
-by-8 : (y : Year) (j : ℕ) → By 8 (bounded rule8 y j .rule)
-unfolding rule8
-by-8 y j = outcome-by 8 _ _ _
-
-by-9 : (y : Year) (j : ℕ) → By 9 (bounded rule9 y j .rule)
-unfolding rule9
-by-9 y j = outcome-by 9 _ _ _
 
 course-10 : (isFull isNeeded : Bool) (j : ℕ) (y : Year) (i : ℕ) → By 10 (rule10Course isFull isNeeded j y i .rule)
 unfolding rule10Course
@@ -100,7 +93,7 @@ course-10 isFull isNeeded j y i = judged-by 10 y i j (verdict10 isFull isNeeded 
 by-10 : (y : Year) (j : ℕ) → By 10 (rule10 y j .rule)
 unfolding rule10
 by-10 y j =
-    choose-by 10 (ltb (highCount y j) (fixedCount y j) || ltb (fixedCount y j + openCount y j) (lowCount y j)) (dead 10 y) _ (inr refl)
+    choose-by 10 (overfull y j || short y j) (dead 10 y) _ (inr refl)
     (over-by 10 (rule10Course (full y j) (needed y j) j) (course-10 (full y j) (needed y j) j) y (y .courses))
 
 by-11 : (y : Year) → By 11 (rule11 y .rule)
@@ -120,15 +113,15 @@ over-terms r f h y = over-by r f h y (y .terms)
 
 pub numbered : Numbered 1 passes
 numbered =
-    over-terms 1 (bounded rule1) by-1
-    also over-terms 2 (bounded rule2) by-2
+    over-terms 1 rule1 by-1
+    also over-terms 2 rule2 by-2
     also over-terms 3 rule3 by-3
-    also over-terms 4 (bounded rule4) by-4
-    also over-terms 5 (bounded rule5) by-5
-    also over-terms 6 (bounded rule6) by-6
-    also over-terms 7 (bounded rule7) by-7
-    also over-terms 8 (bounded rule8) by-8
-    also over-terms 9 (bounded rule9) by-9
+    also over-terms 4 rule4 by-4
+    also over-terms 5 rule5 by-5
+    also over-terms 6 rule6 (λ y j. applied-by 6 y (leastCount y j))
+    also over-terms 7 rule7 (λ y j. applied-by 7 y (mostCount y j))
+    also over-terms 8 rule8 (λ y j. applied-by 8 y (leastLoad y j))
+    also over-terms 9 rule9 (λ y j. applied-by 9 y (mostLoad y j))
     also over-terms 10 rule10 by-10
     also by-11
     also tt

@@ -9,20 +9,36 @@ use native.Mathlib.Omega.{arith}
 use native.Mathlib.Nat.{le-refl, le-trans}
 use lib.Dec.{eqb}
 use lib.ListN.{getD}
+use borrow.Author.Tests.{ltb-false}
 use Rattle.theory.proofs.ChoiceLaws.{choose-case}
 use Rattle.theory.specs.Sum.{pick, sum}
 use Rattle.theory.proofs.TestLaws.{or-false}
 use Rattle.theory.proofs.FoldLaws.{fold-keeps}
 use Rattle.theory.specs.Order.{heavier, lighter, order}
-use Rattle.year.specs.Year.{lowCredits, highCredits, lowCount, highCount}
+use Rattle.year.specs.Bound.{bound, Keeps, beyond}
 use Rattle.year.specs.Sums.{allCredits}
-use Rattle.year.specs.Plans.{Placing, creditsIn, countIn}
+use Rattle.year.specs.Plans.{Placing, amount, putIn}
 use Rattle.year.specs.Sound.{Sound}
+use Rattle.year.specs.declared.Quantity.{Quantity}
+use Rattle.year.specs.declared.Side.{Side}
+use Rattle.year.specs.declared.Side.the-variants.{Low, High}
 use Rattle.year.specs.declared.Year.{Year}
 use Rattle.rules.specs.Narrower.{Narrower}
 use Rattle.rules.specs.Step.{Step, dead, goes, joined, then, next, overTo}
 use Rattle.rules.specs.Spares.{down, up}
 use Rattle.rules.proofs.Leeway.{leeway}
+
+pub keeps-self : (s : Side) (n : ℕ) → Keeps s n n
+keeps-self Low n = le-refl n
+keeps-self High n = le-refl n
+
+pub keeps-then : (s : Side) (a b c : ℕ) → Keeps s a b → Keeps s b c → Keeps s a c
+keeps-then Low a b c h k = le-trans h k
+keeps-then High a b c h k = le-trans k h
+
+pub not-beyond : (s : Side) (n x : ℕ) → beyond s n x ≡ false → Keeps s n x
+not-beyond Low n x e = ltb-false x n e
+not-beyond High n x e = ltb-false n x e
 
 pub narrower-self : (y : Year) → Sound y → Narrower y y
 narrower-self y s = record {
@@ -30,10 +46,7 @@ narrower-self y s = record {
   terms-same = refl;
   courses-same = refl;
   weight-same = refl;
-  low-credits = λ k. le-refl (lowCredits y k);
-  high-credits = λ k. le-refl (highCredits y k);
-  low-count = λ k. le-refl (lowCount y k);
-  high-count = λ k. le-refl (highCount y k);
+  bounds = λ r q k. keeps-self r (bound r q y k);
   lists-less = λ i k e. e;
 }
 
@@ -43,10 +56,7 @@ narrower-then x y z a b = record {
   terms-same = b .terms-same ∙ a .terms-same;
   courses-same = b .courses-same ∙ a .courses-same;
   weight-same = b .weight-same ∙ a .weight-same;
-  low-credits = λ k. le-trans (a .low-credits k) (b .low-credits k);
-  high-credits = λ k. le-trans (b .high-credits k) (a .high-credits k);
-  low-count = λ k. le-trans (a .low-count k) (b .low-count k);
-  high-count = λ k. le-trans (b .high-count k) (a .high-count k);
+  bounds = λ r q k. keeps-then r _ _ _ (a .bounds r q k) (b .bounds r q k);
   lists-less = λ i k e. a .lists-less i k (b .lists-less i k e);
 }
 
@@ -112,9 +122,6 @@ unfolding allCredits
 credits-same y z c w = ap₂ (λ (v : List ℕ) (n : ℕ). sum n (λ i. getD v i 0)) w c
 
 -- and so does what a placing puts into a term
-module _ (y z : Year) (w : Narrower y z) (p : Placing) (k : ℕ) where
-  pub credits-in-same : creditsIn z p k ≡ creditsIn y p k
-  credits-in-same = ap₂ (λ (v : List ℕ) (n : ℕ). sum n (λ i. pick (eqb (p i) k) (getD v i 0))) (w .weight-same) (w .courses-same)
-
-  pub count-in-same : countIn z p k ≡ countIn y p k
-  count-in-same = ap (λ n. sum n (λ i. pick (eqb (p i) k) 1)) (w .courses-same)
+pub put-same : (y z : Year) → Narrower y z → (q : Quantity) (p : Placing) (k : ℕ) → putIn q z p k ≡ putIn q y p k
+put-same y z w q p k =
+    ap₂ (λ (v : List ℕ) (n : ℕ). sum n (λ i. pick (eqb (p i) k) (amount q v i))) (w .weight-same) (w .courses-same)

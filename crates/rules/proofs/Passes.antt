@@ -17,16 +17,13 @@ use Rattle.rules.specs.Bounds.{rule1, rule2, rule4, rule5}
 use Rattle.rules.specs.Lists.{rule3, rule10}
 use Rattle.rules.specs.Spares.{rule6, rule7, rule8, rule9}
 use Rattle.rules.specs.Packing.{rule11}
-use Rattle.rules.specs.Round.{bounded, once, passes, inRow, passesOf, passesFrom, round}
+use Rattle.rules.specs.Round.{once, passes, inRow, passesOf, passesFrom, round}
 use Rattle.rules.specs.Narrower.{Narrower}
 use Rattle.rules.proofs.Narrows.{narrower-then, Narrows, quiet, narrows-rest, narrows-next, next-dead}
-use Rattle.rules.proofs.Steps.{narrows-1, narrows-2, narrows-3, narrows-4, narrows-5, narrows-6, narrows-7, narrows-8, narrows-9, narrows-10, narrows-11, narrows-terms}
-use Rattle.rules.proofs.PlansKept.{PlansKept}
-use Rattle.rules.proofs.KeptOver.{kept-rest, kept-next, AtTerms, kept-terms}
-use Rattle.rules.proofs.BoundsKept.{rule1-kept, rule2-kept, rule4-kept, rule5-kept}
-use Rattle.rules.proofs.ListsKept.{rule3-kept, rule10-kept}
-use Rattle.rules.proofs.SparesKept.{rule6-kept, rule7-kept, rule8-kept, rule9-kept}
-use Rattle.rules.proofs.PackingKept.{rule11-kept}
+use Rattle.rules.proofs.PlansKept.{PlansKept, Held}
+use Rattle.rules.proofs.KeptOver.{narrows-terms, kept-rest, kept-next, AtTerms, kept-terms}
+use Rattle.rules.proofs.RulesHeld.{rule1-held, rule2-held, rule4-held, rule5-held, rule6-held, rule7-held, rule8-held, rule9-held, rule11-held}
+use Rattle.rules.proofs.ListsKept.{rule3-held, rule10-held}
 
 -- ---- the laws of a pass
 
@@ -64,15 +61,15 @@ terms-steps f s = go (eqb (s .rule) 0) refl
     go true e = rw e (over-joined f s (eqb-true (s .rule) 0 e) (s .year .terms))
     go false e = rw e (fold-none goes (then f) s e (s .year .terms))
 
-pub pass-terms : (f : Year → ℕ → Step) → AtTerms Narrows f → AtTerms PlansKept f → Pass (overTerms f)
-pass-terms f narrows kept = record {
+pub pass-terms : (f : Year → ℕ → Step) → AtTerms Held f → Pass (overTerms f)
+pass-terms f held = record {
   steps = terms-steps f;
-  narrows = λ y s. narrows-terms f y (live y) narrows (narrows-rest y 0 s);
-  kept = λ y s. kept-terms f kept narrows y (live y) s (kept-rest y);
+  narrows = λ y s. narrows-terms f y (live y) (λ z j a l. held z j a l .0) (narrows-rest y 0 s);
+  kept = λ y s. kept-terms f (λ z j a l. held z j a l .1) (λ z j a l. held z j a l .0) y (live y) s (kept-rest y);
 }
 
-pub pass-once : (f : Year → Step) → ((y : Year) → Sound y → Narrows y (f y)) → ((y : Year) → Sound y → PlansKept y (f y)) → Pass (once f)
-pass-once f narrows kept = record { steps = λ s. refl; narrows = narrows; kept = kept }
+pub pass-once : (f : Year → Step) → ((y : Year) → Sound y → Held y (f y)) → Pass (once f)
+pass-once f held = record { steps = λ s. refl; narrows = λ y s. held y s .0; kept = λ y s. held y s .1 }
 
 -- ---- each of the eleven
 
@@ -86,17 +83,17 @@ a also b = (a, b)
 
 pub lawful : Each Pass passes
 lawful =
-    pass-terms (bounded rule1) narrows-1 rule1-kept
-    also pass-terms (bounded rule2) narrows-2 rule2-kept
-    also pass-terms rule3 narrows-3 rule3-kept
-    also pass-terms (bounded rule4) narrows-4 rule4-kept
-    also pass-terms (bounded rule5) narrows-5 rule5-kept
-    also pass-terms (bounded rule6) narrows-6 rule6-kept
-    also pass-terms (bounded rule7) narrows-7 rule7-kept
-    also pass-terms (bounded rule8) narrows-8 rule8-kept
-    also pass-terms (bounded rule9) narrows-9 rule9-kept
-    also pass-terms rule10 narrows-10 rule10-kept
-    also pass-once rule11 narrows-11 rule11-kept
+    pass-terms rule1 rule1-held
+    also pass-terms rule2 rule2-held
+    also pass-terms rule3 rule3-held
+    also pass-terms rule4 rule4-held
+    also pass-terms rule5 rule5-held
+    also pass-terms rule6 rule6-held
+    also pass-terms rule7 rule7-held
+    also pass-terms rule8 rule8-held
+    also pass-terms rule9 rule9-held
+    also pass-terms rule10 rule10-held
+    also pass-once rule11 rule11-held
     also tt
 
 -- ---- one pass more

@@ -1,6 +1,6 @@
 -- A round that finds no fault and leaves the year it was given: every pass leaves that year, and so does every rule at every term.
 use Prim.Native.Nat.{ℕ, zero, suc, _≤_, _<_}
-use mathlib.Core.Bool.{Bool, true, false, _||_}
+use mathlib.Core.Bool.{Bool, true, false, _&&_}
 use mathlib.Core.List.{List, [], _∷_}
 use mathlib.Core.Path.{_≡_, refl, sym, ap, _∙_}
 use native.Mathlib.Omega.{arith}
@@ -9,13 +9,16 @@ use native.Mathlib.Decide.{ℕ-discrete}
 use lib.Dec.{eqb}
 use borrow.Author.Tests.{eqb-true}
 use Rattle.theory.specs.Fold.{fold}
-use Rattle.theory.proofs.ChoiceLaws.{choose-case}
+use Rattle.theory.specs.Choice.{choose}
 use Rattle.theory.proofs.TestLaws.{or-false}
 use Rattle.year.specs.Year.{termAt}
+use Rattle.year.specs.Bound.{bound, beyond, tightened}
 use Rattle.year.specs.Sound.{Sound}
-use Rattle.year.specs.declared.Tight.{Tight}
+use Rattle.year.specs.declared.Quantity.{Quantity}
+use Rattle.year.specs.declared.Side.{Side}
+use Rattle.year.specs.declared.Side.the-variants.{Low, High}
 use Rattle.year.specs.declared.Year.{Year}
-use Rattle.rules.specs.Step.{step, live, outcome, outcomeOf, put, next, overTo, overTerms, Step, joined}
+use Rattle.rules.specs.Step.{Change, rests, moves, crosses, applied, move, raiseLower, step, live, dead, goes, next, overTo, overTerms, Step, joined}
 use Rattle.rules.specs.Round.{passes, inRow, round}
 use Rattle.rules.proofs.Narrows.{Narrows, narrows-rest, narrows-over, next-dead}
 use Rattle.rules.proofs.KeptOver.{AtTerms}
@@ -70,9 +73,31 @@ pub round-rest : (y : Year) → Sound y → round y .rule ≡ 0 → round y .yea
 unfolding round
 round-rest y s r q = row-rest passes lawful y (live y) (narrows-rest y 0 s) (live-of y (round y) q (round-quiet y s .1 q) r) .1
 
--- ---- a rule on bounds that leaves the year found neither a fault nor a tighter bound
-pub outcome-rest : (y : Year) (k r : ℕ) (fails : Bool) (w : Tight) → (r ≡ 0 → ⊥) → put y k (outcome r fails (termAt y k) w) ≡ live y → w .altered ≡ false
-unfolding outcome
-outcome-rest y k r fails w d =
-    choose-case (λ o. put y k o ≡ live y → w .altered ≡ false) (fails || w .crossed) (outcomeOf (termAt y k) false r) (outcomeOf (w .term) (w .altered) 0)
-    (λ e q. absurd (d (ap (λ (t : Step). t .rule) q))) (λ e q. ap (λ (t : Step). t .altered) q)
+-- ---- a rule that raises and lowers and leaves the year: each of its changes does nothing
+
+rest-both : (r : ℕ) (y : Year) (s t : Step) → (r ≡ 0 → ⊥) → Narrows y s → (a b : Bool) → goes s ≡ a → goes t ≡ b → choose (a && b) (joined s t) (dead r y) ≡ live y
+    → (s ≡ live y) × (t ≡ live y)
+rest-both r y s t d w true true e g h =
+    let m = or-false (s .altered) (t .altered) (ap (λ (z : Step). z .altered) h) in (
+      live-of y s (w .still (m .0)) (m .0) (eqb-true (s .rule) 0 e),
+      live-of y t (ap (λ (z : Step). z .year) h) (m .1) (eqb-true (t .rule) 0 g),
+    )
+rest-both r y s t d w true false e g h = absurd (d (ap (λ (z : Step). z .rule) h))
+rest-both r y s t d w false b e g h = absurd (d (ap (λ (z : Step). z .rule) h))
+
+pub both-rest : (r : ℕ) (f : Side → Year → ℕ → Change) (y : Year) (j : ℕ) → (r ≡ 0 → ⊥) → Narrows y (applied r y (f Low y j)) → raiseLower r f y j ≡ live y
+    → (applied r y (f Low y j) ≡ live y) × (applied r y (f High y j) ≡ live y)
+both-rest r f y j d w h =
+    let s : Step = applied r y (f Low y j) in
+    let q = rest-both r y s (applied r (s .year) (f High (s .year) j)) d w _ _ refl refl h in
+    (q .0, sym (ap (λ (z : Step). applied r (z .year) (f High (z .year) j)) (q .0)) ∙ q .1)
+
+-- a move that does nothing finds no looser bound
+pub move-rest : (r : ℕ) (s : Side) (q : Quantity) (y : Year) (j n : ℕ) → (r ≡ 0 → ⊥) → applied r y (move s q y j n) ≡ live y → beyond s n (bound s q y j) ≡ false
+unfolding move tightened
+move-rest r s q y j n d = go (tightened s q (termAt y j) n .crossed) (beyond s n (bound s q y j))
+  where
+    go : (a b : Bool) → applied r y (choose a (crosses s q j) (choose b (moves s q j n) rests)) ≡ live y → b ≡ false
+    go true b h = absurd (d (ap (λ (z : Step). z .rule) h))
+    go false true h = ap (λ (z : Step). z .altered) h
+    go false false h = refl

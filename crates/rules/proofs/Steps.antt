@@ -1,143 +1,106 @@
--- Every step of the eleven rules narrows the year it is given, or leaves it: there are two kinds, one on a term's bounds and one on a course's list.
-use Prim.Native.Nat.{ℕ, _+_, _-_, _/_, _^_, _≤_, _<_, max, min}
-use mathlib.Core.Bool.{Bool, true, false, not, _||_, true≢false}
-use mathlib.Core.Path.{_≡_, refl, sym, ap, _∙_}
+-- Every change that finds what it alters narrows the year: a move, a strike and a fixing.
+use Prim.Native.Nat.{ℕ, _+_, _-_, _^_, _≤_, _<_}
+use mathlib.Core.Bool.{Bool, true, false, not, true≢false}
+use mathlib.Core.Path.{_≡_, refl, sym, ap, subst, _∙_}
 use native.Mathlib.Omega.{arith}
-use native.Mathlib.Nat.{le-refl, le-of-eq}
 use native.Mathlib.Decide.{ℕ-discrete}
-use lib.Dec.{eqb, ltb}
-use lib.Seq.{set-getD}
+use lib.Dec.{eqb}
 use borrow.Author.Tests.{eqb-true, eq-eqb, ltb-true, ltb-false}
-use Rattle.theory.proofs.ChoiceLaws.{choose-case, choose-any}
-use Rattle.theory.specs.Sum.{pick}
 use Rattle.theory.proofs.SumLaws.{sum-change}
-use Rattle.theory.specs.Tests.{any}
-use Rattle.theory.proofs.TestLaws.{and-true, or-false}
+use Rattle.theory.proofs.TestLaws.{and-true}
 use Rattle.theory.specs.Bits.{has}
 use Rattle.theory.proofs.BitLaws.{has-struck, has-power, power-below}
-use Rattle.year.specs.Year.{termOf, zeroTerm, termAt, courseAt, list, lists, isFixed, isOpen, lowCredits, highCredits, lowCount, highCount}
+use Rattle.year.specs.Year.{termAt, courseAt, list, lists, isFixed, isOpen}
+use Rattle.year.specs.Bound.{boundOf, withBound, bound, opposite, beyond, Keeps, tightened}
 use Rattle.year.specs.Doors.{withTerm, withList, placed, struck}
-use Rattle.year.specs.Sums.{fixedCount, openCount}
 use Rattle.year.specs.Sound.{Sound, TermSound}
-use Rattle.year.specs.Tight.{creditsWithin, countsWithin}
+use Rattle.year.specs.declared.Quantity.{Quantity}
+use Rattle.year.specs.declared.Quantity.the-variants.{Credits, Counts}
+use Rattle.year.specs.declared.Side.{Side}
+use Rattle.year.specs.declared.Side.the-variants.{Low, High}
 use Rattle.year.specs.declared.Term.{Term}
-use Rattle.year.specs.declared.Course.{Course}
 use Rattle.year.specs.declared.Year.{Year}
+use Rattle.year.proofs.BoundLaws.{tight-new}
 use Rattle.year.proofs.DoorLaws.{term-same, term-other, with-term-sound, list-same, list-other, placed-sound, struck-sound}
-use Rattle.rules.specs.Step.{step, live, dead, outcome, put, judged, overTerms, Step}
-use Rattle.rules.specs.Bounds.{rule1, rule2, rule4, rule5}
-use Rattle.rules.specs.Lists.{verdict3, rule3Course, rule3, full, needed, verdict10, rule10Course, rule10}
-use Rattle.rules.specs.Spares.{rule6, rule7, rule8, rule9}
-use Rattle.rules.specs.Packing.{burst, room, bursts, rule11}
-use Rattle.rules.specs.declared.Outcome.{Outcome}
+use Rattle.rules.specs.Step.{Change, rests, moves, strikes, fixes, crosses, fails, applied, ruled, judged, step}
+use Rattle.rules.specs.Reasons.{Alters}
 use Rattle.rules.specs.declared.Verdict.{Verdict}
 use Rattle.rules.specs.declared.Verdict.the-variants.{Stays, Struck, Fixed}
 use Rattle.rules.proofs.Leeway.{slack, slackAt, choices, choicesAt, leeway, choices-struck, choices-placed}
-use Rattle.rules.proofs.Narrows.{Narrows, narrows-rest, narrows-over, Lawful}
+use Rattle.rules.proofs.Narrows.{keeps-self, Narrows, narrows-rest}
 
 -- ---- bounds
 
--- u is t with no bound looser, and with less between them where something was altered
-pub record Tighter (t u : Term) (altered : Bool) : Type 0 where
-  pub sound : TermSound u
-  pub low : t .low .0 ≤ u .low .0
-  pub high : u .high .0 ≤ t .high .0
-  pub least : t .least .0 ≤ u .least .0
-  pub most : u .most .0 ≤ t .most .0
-  pub falls : slack u + pick altered 1 ≤ slack t
-  pub still : altered ≡ false → u ≡ t
+-- u is t with no bound looser, and with less between them
+record Tighter (t u : Term) : Type 0 where
+  sound : TermSound u
+  bounds : (s : Side) (q : Quantity) → Keeps s (boundOf s q t) (boundOf s q u)
+  falls : slack u + 1 ≤ slack t
 
-tighter-same : (t : Term) → TermSound t → Tighter t t false
-tighter-same t s = record { sound = s; low = omega arith; high = omega arith; least = omega arith; most = omega arith; falls = omega arith; still = λ e. refl }
+each : (t u : Term) → t .low .0 ≤ u .low .0 → u .high .0 ≤ t .high .0 → t .least .0 ≤ u .least .0 → u .most .0 ≤ t .most .0
+    → (s : Side) (q : Quantity) → Keeps s (boundOf s q t) (boundOf s q u)
+each t u a b c d Low Credits = a
+each t u a b c d High Credits = b
+each t u a b c d Low Counts = c
+each t u a b c d High Counts = d
 
--- one pair of bounds of which neither is tighter
-pair-still : (low high a b : ℕ) → ltb low a || ltb b high ≡ false → (max low a ≡ low) × (min high b ≡ high)
-pair-still low high a b e =
-    let q = or-false (ltb low a) (ltb b high) e in
-    (omega (arith, ltb-false low a (q .0)), omega (arith, ltb-false b high (q .1)))
+-- one bound replaced by n, which is beyond it and not beyond its opposite
+bound-tighter : (s : Side) (q : Quantity) (t : Term) (n : ℕ) → TermSound t → beyond s n (boundOf s q t) ≡ true → beyond s n (boundOf (opposite s) q t) ≡ false
+    → Tighter t (withBound s q t n)
+bound-tighter Low Credits t n o e f =
+    let a : t .low .0 < n = ltb-true _ _ e in
+    let b : n ≤ t .high .0 = ltb-false _ _ f in
+    record { sound = omega (arith, o); bounds = each t _ (omega arith) (omega arith) (omega arith) (omega arith); falls = omega (arith, o) }
+bound-tighter High Credits t n o e f =
+    let a : n < t .high .0 = ltb-true _ _ e in
+    let b : t .low .0 ≤ n = ltb-false _ _ f in
+    record { sound = omega (arith, o); bounds = each t _ (omega arith) (omega arith) (omega arith) (omega arith); falls = omega (arith, o) }
+bound-tighter Low Counts t n o e f =
+    let a : t .least .0 < n = ltb-true _ _ e in
+    let b : n ≤ t .most .0 = ltb-false _ _ f in
+    record { sound = omega (arith, o); bounds = each t _ (omega arith) (omega arith) (omega arith) (omega arith); falls = omega (arith, o) }
+bound-tighter High Counts t n o e f =
+    let a : n < t .most .0 = ltb-true _ _ e in
+    let b : t .least .0 ≤ n = ltb-false _ _ f in
+    record { sound = omega (arith, o); bounds = each t _ (omega arith) (omega arith) (omega arith) (omega arith); falls = omega (arith, o) }
 
--- one pair of bounds: low raised to a, high lowered to b, and not crossed
-pair-falls : (low high a b : ℕ) → max low a ≤ min high b → (min high b - max low a) + pick (ltb low a || ltb b high) 1 ≤ high - low
-pair-falls low high a b h = go (ltb low a) (ltb b high) refl refl
-  where
-    go : (p q : Bool) → ltb low a ≡ p → ltb b high ≡ q → (min high b - max low a) + pick (p || q) 1 ≤ high - low
-    go true q e f = omega (arith, ltb-true low a e)
-    go false true e f = omega (arith, ltb-true b high f)
-    go false false e f = omega arith
-
-abbrev pub OutcomeTighter : Term → Outcome → Type 0
-OutcomeTighter t o = Tighter t (o .term) (o .altered)
-
-pub credits-tighter : (r : ℕ) (fails : Bool) (t : Term) (a b : ℕ) → TermSound t → OutcomeTighter t (outcome r fails t (creditsWithin t a b))
-unfolding creditsWithin outcome
-credits-tighter r fails t a b s =
-    choose-case (OutcomeTighter t) (fails || ltb (min (t .high .0) b) (max (t .low .0) a)) _ _ (λ e. tighter-same t s)
-    (λ e.
-    let h : max (t .low .0) a ≤ min (t .high .0) b = ltb-false (min (t .high .0) b) (max (t .low .0) a) (or-false fails (ltb (min (t .high .0) b) (max (t .low .0) a)) e .1) in
-    record {
-      sound = record { credits-ordered = h; credits-most = omega (arith, s); count-ordered = s .count-ordered; count-most = s .count-most };
-      low = omega arith;
-      high = omega arith;
-      least = omega arith;
-      most = omega arith;
-      falls = omega (arith, pair-falls (t .low .0) (t .high .0) a b h);
-      still = λ z. let p = pair-still (t .low .0) (t .high .0) a b z in λ i. termOf (p .0 i) (p .1 i) (t .least .0) (t .most .0);
-    })
-
-pub counts-tighter : (r : ℕ) (fails : Bool) (t : Term) (a b : ℕ) → TermSound t → OutcomeTighter t (outcome r fails t (countsWithin t a b))
-unfolding countsWithin outcome
-counts-tighter r fails t a b s =
-    choose-case (OutcomeTighter t) (fails || ltb (min (t .most .0) b) (max (t .least .0) a)) _ _ (λ e. tighter-same t s)
-    (λ e.
-    let h : max (t .least .0) a ≤ min (t .most .0) b = ltb-false (min (t .most .0) b) (max (t .least .0) a) (or-false fails (ltb (min (t .most .0) b) (max (t .least .0) a)) e .1) in
-    record {
-      sound = record { credits-ordered = s .credits-ordered; credits-most = s .credits-most; count-ordered = h; count-most = omega (arith, s) };
-      low = omega arith;
-      high = omega arith;
-      least = omega arith;
-      most = omega arith;
-      falls = omega (arith, pair-falls (t .least .0) (t .most .0) a b h);
-      still = λ z. let p = pair-still (t .least .0) (t .most .0) a b z in λ i. termOf (t .low .0) (t .high .0) (p .0 i) (p .1 i);
-    })
-
--- a term's own bounds put there again
-with-own : (y : Year) (j : ℕ) → withTerm y j (termAt y j) ≡ y
-with-own y j = λ i. record { terms = y .terms; courses = y .courses; term = set-getD (y .term) j zeroTerm i; weight = y .weight; list = y .list; sums = y .sums }
-
-module _ (y : Year) (j : ℕ) (o : Outcome) (s : Sound y) (h : j < y .terms) (w : OutcomeTighter (termAt y j) o) where
-  at : (k : ℕ) (P : Term → Term → Type 0) → P (termAt y j) (o .term) → (P (termAt y k) (termAt y k)) → P (termAt y k) (termAt (withTerm y j (o .term)) k)
+module _ (y : Year) (j : ℕ) (u : Term) (s : Sound y) (h : j < y .terms) (w : Tighter (termAt y j) u) where
+  at : (k : ℕ) (P : Term → Term → Type 0) → P (termAt y j) u → P (termAt y k) (termAt y k) → P (termAt y k) (termAt (withTerm y j u) k)
   at k P new old = go (ℕ-discrete k j)
     where
-      go : Dec (k ≡ j) → P (termAt y k) (termAt (withTerm y j (o .term)) k)
-      go (yes e) = rw (e, term-same y j (o .term) (omega (arith, s))) new
-      go (no ne) = rw (term-other y j (o .term) k ne) old
+      go : Dec (k ≡ j) → P (termAt y k) (termAt (withTerm y j u) k)
+      go (yes e) = rw (e, term-same y j u (omega (arith, s))) new
+      go (no ne) = rw (term-other y j u k ne) old
 
-  leeway-falls : leeway (withTerm y j (o .term)) + pick (o .altered) 1 ≤ leeway y
+  leeway-falls : leeway (withTerm y j u) + 1 ≤ leeway y
   unfolding leeway
   leeway-falls =
-      let new : slackAt (withTerm y j (o .term)) j ≡ slack (o .term) = ap slack (term-same y j (o .term) (omega (arith, s))) in
+      let new : slackAt (withTerm y j u) j ≡ slack u = ap slack (term-same y j u (omega (arith, s))) in
       omega (
         arith,
         w .falls,
-        sum-change (y .terms) j (slackAt (withTerm y j (o .term))) (slackAt y) h (λ k m ne. ap slack (term-other y j (o .term) k ne)),
+        sum-change (y .terms) j (slackAt (withTerm y j u)) (slackAt y) h (λ k m ne. ap slack (term-other y j u k ne)),
       )
 
-  pub narrows-put : Narrows y (put y j o)
-  narrows-put = record {
+  narrows-term : Narrows y (step (withTerm y j u) true 0)
+  narrows-term = record {
     year = record {
-      sound = with-term-sound y j (o .term) s h (w .sound);
+      sound = with-term-sound y j u s h (w .sound);
       terms-same = refl;
       courses-same = refl;
       weight-same = refl;
-      low-credits = λ k. at k (λ t u. t .low .0 ≤ u .low .0) (w .low) (le-refl (lowCredits y k));
-      high-credits = λ k. at k (λ t u. u .high .0 ≤ t .high .0) (w .high) (le-refl (highCredits y k));
-      low-count = λ k. at k (λ t u. t .least .0 ≤ u .least .0) (w .least) (le-refl (lowCount y k));
-      high-count = λ k. at k (λ t u. u .most .0 ≤ t .most .0) (w .most) (le-refl (highCount y k));
+      bounds = λ r q k. at k (λ t v. Keeps r (boundOf r q t) (boundOf r q v)) (w .bounds r q) (keeps-self r (bound r q y k));
       lists-less = λ i k e. e;
     };
     falls = leeway-falls;
-    still = λ e. ap (withTerm y j) (w .still e) ∙ with-own y j;
+    still = λ e. absurd (true≢false e);
   }
+
+pub narrows-moved : (y : Year) (s : Side) (q : Quantity) (j n : ℕ) → Sound y → Alters y (moves s q j n) → Narrows y (applied 0 y (moves s q j n))
+unfolding tightened
+narrows-moved y s q j n sound a =
+    subst (λ u. Narrows y (step (withTerm y j u) true 0)) (sym (tight-new s q (termAt y j) n (a .1)))
+    (narrows-term y j (withBound s q (termAt y j) n) sound (a .0) (bound-tighter s q (termAt y j) n (sound .term-sound j (a .0)) (a .1) (a .2)))
 
 -- ---- lists
 
@@ -154,17 +117,14 @@ module _ (y : Year) (i l : ℕ) (s : Sound y) (h : i < y .courses) (sound : Soun
         sum-change (y .courses) i (choicesAt (withList y i l)) (choicesAt y) h (λ k m ne. ap choices (list-other y i l k ne)),
       )
 
-  pub narrows-list : Narrows y (step (withList y i l) true 0)
+  narrows-list : Narrows y (step (withList y i l) true 0)
   narrows-list = record {
     year = record {
       sound = sound;
       terms-same = refl;
       courses-same = refl;
       weight-same = refl;
-      low-credits = λ k. le-refl (lowCredits y k);
-      high-credits = λ k. le-refl (highCredits y k);
-      low-count = λ k. le-refl (lowCount y k);
-      high-count = λ k. le-refl (highCount y k);
+      bounds = λ r q k. keeps-self r (bound r q y k);
       lists-less = λ a k e. named a k (ℕ-discrete a i) e;
     };
     falls = list-falls;
@@ -201,98 +161,25 @@ module _ (y : Year) (i j : ℕ) (s : Sound y) (h : i < y .courses) (l : j < y .t
       (λ k q. let r : k ≡ j = eqb-true k j (sym (has-power j k) ∙ q) in rw r is-listed)
       (choices-placed (list y i) j (omega (arith, s)) small is-listed not-alone)
 
--- a verdict on a course that is not open leaves it
-narrows-judged : (y : Year) (i j : ℕ) (v : Verdict) → Sound y → i < y .courses → j < y .terms → (isOpen (courseAt y i) j ≡ false → v ≡ Stays) → Narrows y (judged y i j v)
-narrows-judged y i j Stays s h l e = narrows-rest y 0 s
-narrows-judged y i j Struck s h l e = narrows-struck y i j s h l (open-of (isOpen (courseAt y i) j) refl e)
+-- ---- changes
+
+pub change-narrows : (r : ℕ) (y : Year) → Sound y → (c : Change) → Alters y c → Narrows y (applied r y c)
+change-narrows r y s rests a = narrows-rest y 0 s
+change-narrows r y s (moves d q j n) a = narrows-moved y d q j n s a
+change-narrows r y s (strikes i j) a = narrows-struck y i j s (a .0) (a .1) (a .2)
+change-narrows r y s (fixes i j) a = narrows-placed y i j s (a .0) (a .1) (a .2)
+change-narrows r y s (crosses d q j) a = narrows-rest y r s
+change-narrows r y s fails a = narrows-rest y r s
+
+-- ---- verdicts, whatever is known of the term
+
+-- a verdict that lets a course that is not open stay
+pub judged-narrows : (y : Year) (i j : ℕ) (v : Verdict) → Sound y → i < y .courses → j < y .terms → (isOpen (courseAt y i) j ≡ false → v ≡ Stays) → Narrows y (judged y i j v)
+judged-narrows y i j v s h l stays = change-narrows 0 y s (ruled i j v) (go (isOpen (courseAt y i) j) refl v stays)
   where
-    open-of : (b : Bool) → isOpen (courseAt y i) j ≡ b → (isOpen (courseAt y i) j ≡ false → Struck ≡ Stays) → isOpen (courseAt y i) j ≡ true
-    open-of true q k = q
-    open-of false q k = let z : Struck ≡ Stays = k q in absurd (let d : _≡_ {A = ℕ} 0 1 = cc in omega arith)
-narrows-judged y i j Fixed s h l e = narrows-placed y i j s h l (open-of (isOpen (courseAt y i) j) refl e)
-  where
-    open-of : (b : Bool) → isOpen (courseAt y i) j ≡ b → (isOpen (courseAt y i) j ≡ false → Fixed ≡ Stays) → isOpen (courseAt y i) j ≡ true
-    open-of true q k = q
-    open-of false q k = let z : Fixed ≡ Stays = k q in absurd (let d : _≡_ {A = ℕ} 0 1 = cc in omega arith)
-
--- ---- the rules at a term
-
-module _ (y : Year) (j : ℕ) (s : Sound y) (h : j < y .terms) where
-  abbrev t : Term
-  t = termAt y j
-
-  pub narrows-1 : Narrows y (put y j (rule1 y j))
-  unfolding rule1
-  narrows-1 = narrows-put y j (rule1 y j) s h (credits-tighter 1 _ t _ _ (s .term-sound j h))
-
-  pub narrows-2 : Narrows y (put y j (rule2 y j))
-  unfolding rule2
-  narrows-2 = narrows-put y j (rule2 y j) s h (credits-tighter 2 _ t _ _ (s .term-sound j h))
-
-  pub narrows-4 : Narrows y (put y j (rule4 y j))
-  unfolding rule4
-  narrows-4 = narrows-put y j (rule4 y j) s h (counts-tighter 4 _ t _ _ (s .term-sound j h))
-
-  pub narrows-5 : Narrows y (put y j (rule5 y j))
-  unfolding rule5
-  narrows-5 = narrows-put y j (rule5 y j) s h (counts-tighter 5 _ t _ _ (s .term-sound j h))
-
-  pub narrows-6 : Narrows y (put y j (rule6 y j))
-  unfolding rule6
-  narrows-6 = narrows-put y j (rule6 y j) s h (counts-tighter 6 _ t _ _ (s .term-sound j h))
-
-  pub narrows-7 : Narrows y (put y j (rule7 y j))
-  unfolding rule7
-  narrows-7 = narrows-put y j (rule7 y j) s h (counts-tighter 7 _ t _ _ (s .term-sound j h))
-
-  pub narrows-8 : Narrows y (put y j (rule8 y j))
-  unfolding rule8
-  narrows-8 = narrows-put y j (rule8 y j) s h (credits-tighter 8 _ t _ _ (s .term-sound j h))
-
-  pub narrows-9 : Narrows y (put y j (rule9 y j))
-  unfolding rule9
-  narrows-9 = narrows-put y j (rule9 y j) s h (credits-tighter 9 _ t _ _ (s .term-sound j h))
-
--- rules 3 and 10: course by course
-verdict3-open : (c : Course) (t : Term) (p P j : ℕ) → isOpen c j ≡ false → verdict3 c t p P j ≡ Stays
-unfolding verdict3
-verdict3-open c t p P j e = rw e
-
-verdict10-open : (f n : Bool) (c : Course) (j : ℕ) → isOpen c j ≡ false → verdict10 f n c j ≡ Stays
-unfolding verdict10
-verdict10-open f n c j e = rw e
-
-pub lawful-3 : (terms courses j : ℕ) → j < terms → Lawful terms courses (rule3Course j) courses
-unfolding rule3Course
-lawful-3 terms courses j l z i s t c h =
-    narrows-judged z i j _ s (omega arith) (omega arith) (verdict3-open (courseAt z i) (termAt z j) _ _ j)
-
-pub lawful-10 : (terms courses j : ℕ) (f n : Bool) → j < terms → Lawful terms courses (rule10Course f n j) courses
-unfolding rule10Course
-lawful-10 terms courses j f n l z i s t c h = narrows-judged z i j _ s (omega arith) (omega arith) (verdict10-open f n (courseAt z i) j)
-
-module _ (y : Year) (j : ℕ) (s : Sound y) (h : j < y .terms) where
-  pub narrows-3 : Narrows y (rule3 y j)
-  unfolding rule3
-  narrows-3 = narrows-over (rule3Course j) (y .courses) y (live y) (lawful-3 (y .terms) (y .courses) j h) (narrows-rest y 0 s) (y .courses) (le-refl (y .courses))
-
-  pub narrows-10 : Narrows y (rule10 y j)
-  unfolding rule10
-  narrows-10 =
-      choose-case (Narrows y) (ltb (highCount y j) (fixedCount y j) || ltb (fixedCount y j + openCount y j) (lowCount y j)) (dead 10 y) _
-      (λ e. narrows-rest y 10 s)
-      (λ e. narrows-over (rule10Course (full y j) (needed y j) j) (y .courses) y (live y) (lawful-10 (y .terms) (y .courses) j (full y j) (needed y j) h) (narrows-rest y 0 s) (y .courses) (le-refl (y .courses)))
-
-pub narrows-11 : (y : Year) → Sound y → Narrows y (rule11 y)
-unfolding rule11
-narrows-11 y s =
-    choose-any (Narrows y) (any (y .terms) (burst y)) (dead 11 y) _ (narrows-rest y 11 s)
-    (choose-any (Narrows y) (eqb (room y) 0) (live y) _ (narrows-rest y 0 s)
-    (choose-any (Narrows y) (any (room y / 2 + 1) (bursts y (room y))) (dead 11 y) (live y) (narrows-rest y 11 s) (narrows-rest y 0 s)))
-
--- ---- over the terms
-
--- a rule over the terms of the year that the rules before it left
-pub narrows-terms : (f : Year → ℕ → Step) (y : Year) (s : Step) → ((z : Year) (j : ℕ) → Sound z → j < z .terms → Narrows z (f z j)) → Narrows y s → Narrows y (overTerms f s)
-narrows-terms f y s law a =
-    narrows-over f (y .terms) y s (λ z k b t c l. law z k b (omega arith)) a (s .year .terms) (le-of-eq (a .year .terms-same))
+    go : (o : Bool) → isOpen (courseAt y i) j ≡ o → (v : Verdict) → (isOpen (courseAt y i) j ≡ false → v ≡ Stays) → Alters y (ruled i j v)
+    go o e Stays k = tt
+    go true e Struck k = (h, l, e)
+    go true e Fixed k = (h, l, e)
+    go false e Struck k = let z : Struck ≡ Stays = k e in absurd (let d : _≡_ {A = ℕ} 0 1 = cc in omega arith)
+    go false e Fixed k = let z : Fixed ≡ Stays = k e in absurd (let d : _≡_ {A = ℕ} 0 1 = cc in omega arith)

@@ -4,13 +4,14 @@ use Prim.Native.Nat.{ℕ, _+_, _/_}
 use mathlib.Core.Bool.{Bool, true, false}
 use mathlib.Core.List.{List, [], _∷_}
 use mathlib.Core.Path.{_≡_, refl}
-use Rattle.year.specs.Year.{termOf, courseOf, list}
+use Rattle.year.specs.Year.{termOf, courseOf, termAt, list}
 use Rattle.theory.specs.Largest.{largest}
 use Rattle.theory.specs.Tests.{any}
 use Rattle.year.specs.Examples.{yearOf, atLeast}
 use Rattle.year.specs.declared.Term.{Term}
 use Rattle.year.specs.declared.Course.{Course}
 use Rattle.year.specs.declared.Year.{Year}
+use Rattle.rules.specs.Step.{Step}
 use Rattle.rules.specs.Bounds.{rule1, rule2, rule4, rule5}
 use Rattle.rules.specs.Lists.{rule3, rule10}
 use Rattle.rules.specs.Spares.{rule6, rule7, rule8, rule9}
@@ -33,15 +34,18 @@ seven =
     yearOf (atLeast 5 0 ∷ atLeast 0 2 ∷ atLeast 0 0 ∷ [])
     (courseOf 3 3 ∷ courseOf 3 3 ∷ courseOf 3 3 ∷ courseOf 1 5 ∷ courseOf 1 5 ∷ [])
 
--- the least count that rule 6 gives term 0
-abbrev pub leastCount : Year → ℕ
-leastCount y = rule6 y 0 .term .least .0
+-- term 0 after a rule, and the least count that rule 6 gives it
+abbrev pub firstAfter : (Year → ℕ → Step) → Year → Term
+firstAfter rule y = termAt (rule y 0 .year) 0
 
-row6 : leastCount six ≡ 4
+abbrev pub countBy6 : Year → ℕ
+countBy6 y = firstAfter rule6 y .least .0
+
+row6 : countBy6 six ≡ 4
 unfolding computing
 row6 = refl
 
-row7 : leastCount seven ≡ 3
+row7 : countBy6 seven ≡ 3
 unfolding computing
 row7 = refl
 
@@ -129,20 +133,20 @@ abbrev pub bothOpen : List Course
 bothOpen = courseOf 4 3 ∷ courseOf 3 3 ∷ []
 
 -- low credits are raised to what is fixed, not to what is possible; and so the low count
-own-1 : rule1 (beside (termOf 0 9 0 2) fixedAndOpen) 0 .term .low .0 ≡ 4
+own-1 : firstAfter rule1 (beside (termOf 0 9 0 2) fixedAndOpen) .low .0 ≡ 4
 unfolding computing
 own-1 = refl
 
-own-4 : rule4 (beside (termOf 0 9 0 2) fixedAndOpen) 0 .term .least .0 ≡ 1
+own-4 : firstAfter rule4 (beside (termOf 0 9 0 2) fixedAndOpen) .least .0 ≡ 1
 unfolding computing
 own-4 = refl
 
 -- low credits by the others' high credits, the high count by the others' low count
-others-2 : rule2 (yearOf (termOf 0 9 0 2 ∷ termOf 0 5 0 2 ∷ []) bothOpen) 0 .term .low .0 ≡ 2
+others-2 : firstAfter rule2 (yearOf (termOf 0 9 0 2 ∷ termOf 0 5 0 2 ∷ []) bothOpen) .low .0 ≡ 2
 unfolding computing
 others-2 = refl
 
-others-5 : rule5 (yearOf (termOf 0 9 0 2 ∷ termOf 0 9 1 2 ∷ []) bothOpen) 0 .term .most .0 ≡ 1
+others-5 : firstAfter rule5 (yearOf (termOf 0 9 0 2 ∷ termOf 0 9 1 2 ∷ []) bothOpen) .most .0 ≡ 1
 unfolding computing
 others-5 = refl
 
@@ -151,16 +155,16 @@ fits-3 : list (rule3 (beside (termOf 0 4 0 2) (courseOf 4 3 ∷ [])) 0 .year) 0 
 unfolding computing
 fits-3 = refl
 
-fits-7 : rule7 (beside (termOf 0 4 0 2) (courseOf 4 3 ∷ [])) 0 .term .most .0 ≡ 1
+fits-7 : firstAfter rule7 (beside (termOf 0 4 0 2) (courseOf 4 3 ∷ [])) .most .0 ≡ 1
 unfolding computing
 fits-7 = refl
 
 -- the least load has the lightest course; the most load as many as the high count lets in
-load-8 : rule8 (beside (termOf 0 9 1 2) bothOpen) 0 .term .low .0 ≡ 3
+load-8 : firstAfter rule8 (beside (termOf 0 9 1 2) bothOpen) .low .0 ≡ 3
 unfolding computing
 load-8 = refl
 
-load-9 : rule9 (beside (termOf 0 9 0 1) bothOpen) 0 .term .high .0 ≡ 4
+load-9 : firstAfter rule9 (beside (termOf 0 9 0 1) bothOpen) .high .0 ≡ 4
 unfolding computing
 load-9 = refl
 
@@ -170,7 +174,7 @@ unfolding computing
 needs-10 = refl
 
 -- what is fixed in another term is not taken from what it can spare
-spares-6 : leastCount (yearOf (atLeast 3 0 ∷ atLeast 0 1 ∷ []) (courseOf 3 3 ∷ courseOf 2 2 ∷ [])) ≡ 1
+spares-6 : countBy6 (yearOf (atLeast 3 0 ∷ atLeast 0 1 ∷ []) (courseOf 3 3 ∷ courseOf 2 2 ∷ [])) ≡ 1
 unfolding computing
 spares-6 = refl
 
@@ -187,6 +191,6 @@ unfolding computing
 early = refl
 
 -- rule 7 passes a course that term 1 cannot spare and counts the one behind it
-skips : rule7 (yearOf (termOf 0 4 0 3 ∷ termOf 0 9 1 3 ∷ termOf 0 9 0 3 ∷ []) (courseOf 1 3 ∷ courseOf 2 5 ∷ [])) 0 .term .most .0 ≡ 1
+skips : firstAfter rule7 (yearOf (termOf 0 4 0 3 ∷ termOf 0 9 1 3 ∷ termOf 0 9 0 3 ∷ []) (courseOf 1 3 ∷ courseOf 2 5 ∷ [])) .most .0 ≡ 1
 unfolding computing
 skips = refl

@@ -1,4 +1,4 @@
--- To be believed: the eleven rules of a round, family by family. Computing alone is inner.
+-- To be believed: the eleven rules of a round, family by family, and what each step of them rests on. Computing alone is inner.
 pub mod Step
 pub mod Bounds
 pub mod Lists
@@ -7,5 +7,9 @@ pub mod Packing
 pub mod Thresholds
 pub mod Round
 pub mod Narrower
+pub mod Facts
+pub mod Reasons
+pub mod FactAt
 pub mod Computing
 pub mod Examples
+pub mod ReasonExamples

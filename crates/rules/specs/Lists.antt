@@ -25,13 +25,23 @@ verdict3 c t p P j =
     Stays
 
 -- p and P are read anew for each course
+abbrev pub verdictAt3 : Year → ℕ → ℕ → Verdict
+verdictAt3 y j i = verdict3 (courseAt y i) (termAt y j) (fixedCredits y j) (possibleCredits y j) j
+
 unfoldable pub rule3Course : ℕ → Year → ℕ → Step
-rule3Course j y i = judged y i j (verdict3 (courseAt y i) (termAt y j) (fixedCredits y j) (possibleCredits y j) j)
+rule3Course j y i = judged y i j (verdictAt3 y j i)
 
 unfoldable pub rule3 : Year → ℕ → Step
 rule3 y j = overCourses (rule3Course j) (live y)
 
 -- ---- rule 10
+
+-- fixed exceeds high count; fixed plus open is below low count
+abbrev pub overfull : Year → ℕ → Bool
+overfull y j = ltb (highCount y j) (fixedCount y j)
+
+abbrev pub short : Year → ℕ → Bool
+short y j = ltb (fixedCount y j + openCount y j) (lowCount y j)
 
 -- the term is full: fixed equals high count. It needs all: fixed plus open equals low count
 abbrev pub full : Year → ℕ → Bool
@@ -47,9 +57,9 @@ verdict10 isFull isNeeded c j = choose (isOpen c j) (choose isFull Struck (choos
 unfoldable pub rule10Course : Bool → Bool → ℕ → Year → ℕ → Step
 rule10Course isFull isNeeded j y i = judged y i j (verdict10 isFull isNeeded (courseAt y i) j)
 
--- fixed exceeds high count, or fixed plus open is below low count: no plan.
+-- overfull or short is no plan.
 -- What the term is, is read once, before its courses are altered
 unfoldable pub rule10 : Year → ℕ → Step
 rule10 y j =
-    choose (ltb (highCount y j) (fixedCount y j) || ltb (fixedCount y j + openCount y j) (lowCount y j)) (dead 10 y)
+    choose (overfull y j || short y j) (dead 10 y)
     (overCourses (rule10Course (full y j) (needed y j) j) (live y))

@@ -3,16 +3,11 @@ use Prim.Native.Nat.{ℕ, _+_, _-_}
 use mathlib.Core.List.{List, [], _∷_}
 use lib.ListN.{take, drop}
 use Rattle.year.specs.declared.Year.{Year}
-use Rattle.rules.specs.Step.{live, put, next, overTerms, Step}
+use Rattle.rules.specs.Step.{live, next, overTerms, Step}
 use Rattle.rules.specs.Bounds.{rule1, rule2, rule4, rule5}
 use Rattle.rules.specs.Lists.{rule3, rule10}
 use Rattle.rules.specs.Spares.{rule6, rule7, rule8, rule9}
 use Rattle.rules.specs.Packing.{rule11}
-use Rattle.rules.specs.declared.Outcome.{Outcome}
-
--- a rule on bounds, at a term
-abbrev pub bounded : (Year → ℕ → Outcome) → Year → ℕ → Step
-bounded rule y j = put y j (rule y j)
 
 -- a rule for the year, once
 abbrev pub once : (Year → Step) → Step → Step
@@ -21,15 +16,15 @@ once rule s = next (λ y k. rule y) s 0
 -- the passes of a round, in the paper's order
 abbrev pub passes : List (Step → Step)
 passes =
-    overTerms (bounded rule1)
-    ∷ overTerms (bounded rule2)
+    overTerms rule1
+    ∷ overTerms rule2
     ∷ overTerms rule3
-    ∷ overTerms (bounded rule4)
-    ∷ overTerms (bounded rule5)
-    ∷ overTerms (bounded rule6)
-    ∷ overTerms (bounded rule7)
-    ∷ overTerms (bounded rule8)
-    ∷ overTerms (bounded rule9)
+    ∷ overTerms rule4
+    ∷ overTerms rule5
+    ∷ overTerms rule6
+    ∷ overTerms rule7
+    ∷ overTerms rule8
+    ∷ overTerms rule9
     ∷ overTerms rule10
     ∷ once rule11
     ∷ []

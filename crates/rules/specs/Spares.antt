@@ -1,6 +1,6 @@
 -- Rules 6 to 9: one walk over the open courses of a term, with the number of courses that each other term can still spare.
 use Prim.Native.Nat.{ℕ, _+_, _-_}
-use mathlib.Core.Bool.{Bool, false, _&&_, not}
+use mathlib.Core.Bool.{Bool, _&&_, not}
 use mathlib.Core.List.{List}
 use lib.Dec.{eqb, leb, ltb}
 use lib.ListN.{getD, take}
@@ -9,13 +9,14 @@ use Rattle.theory.specs.Tests.{any}
 use Rattle.theory.specs.Tab.{tab}
 use Rattle.theory.specs.Order.{heavier, lighter, order, keep}
 use Rattle.theory.specs.Walk.{Table, Reached, walk}
-use Rattle.year.specs.Year.{termAt, courseAt, weight, lists, isOpen, lowCredits, highCredits, lowCount, highCount}
+use Rattle.theory.specs.Choice.{choose}
+use Rattle.year.specs.Year.{termAt, courseAt, weight, lists, isOpen, lowCredits, lowCount}
 use Rattle.year.specs.Sums.{fixedCredits, fixedCount, openCount}
-use Rattle.year.specs.Tight.{creditsWithin, countsWithin}
 use Rattle.year.specs.declared.Course.{Course}
+use Rattle.year.specs.declared.Quantity.the-variants.{Credits, Counts}
+use Rattle.year.specs.declared.Side.the-variants.{Low, High}
 use Rattle.year.specs.declared.Year.{Year}
-use Rattle.rules.specs.Step.{outcome}
-use Rattle.rules.specs.declared.Outcome.{Outcome}
+use Rattle.rules.specs.Step.{Change, fails, move, applied, Step}
 use Rattle.rules.specs.declared.Until.{Until}
 use Rattle.rules.specs.declared.Until.the-variants as until
 
@@ -78,25 +79,33 @@ up y = order (lighter (weight y)) (y .courses)
 -- ---- the four rules
 
 -- least count: stop when credits reach low credits; raise low count to fixed plus counted. Not reaching low credits is no plan
-unfoldable pub rule6 : Year → ℕ → Outcome
-rule6 y j =
+unfoldable pub leastCount : Year → ℕ → Change
+leastCount y j =
     let w = walkOf y j (until.Credits (termAt y j .low)) (down y) in
-    outcome 6 (ltb (w .credits) (lowCredits y j)) (termAt y j) (countsWithin (termAt y j) (w .count) (highCount y j))
+    choose (ltb (w .credits) (lowCredits y j)) fails (move Low Counts y j (w .count))
 
 -- most count: stop when the next course, skipped or not, would pass high credits; lower high count to fixed plus counted
-unfoldable pub rule7 : Year → ℕ → Outcome
-rule7 y j =
-    let w = walkOf y j (until.Past (termAt y j .high)) (up y) in
-    outcome 7 false (termAt y j) (countsWithin (termAt y j) (lowCount y j) (w .count))
+unfoldable pub mostCount : Year → ℕ → Change
+mostCount y j = move High Counts y j (walkOf y j (until.Past (termAt y j .high)) (up y) .count)
 
 -- least load: until the count reaches low count; raise low credits to the credits so reached. Not reaching it is no plan
-unfoldable pub rule8 : Year → ℕ → Outcome
-rule8 y j =
+unfoldable pub leastLoad : Year → ℕ → Change
+leastLoad y j =
     let w = walkOf y j (until.Count (termAt y j .least)) (up y) in
-    outcome 8 (ltb (w .count) (lowCount y j)) (termAt y j) (creditsWithin (termAt y j) (w .credits) (highCredits y j))
+    choose (ltb (w .count) (lowCount y j)) fails (move Low Credits y j (w .credits))
 
 -- most load: until the count reaches high count or courses end; lower high credits to the credits so reached
-unfoldable pub rule9 : Year → ℕ → Outcome
-rule9 y j =
-    let w = walkOf y j (until.Count (termAt y j .most)) (down y) in
-    outcome 9 false (termAt y j) (creditsWithin (termAt y j) (lowCredits y j) (w .credits))
+unfoldable pub mostLoad : Year → ℕ → Change
+mostLoad y j = move High Credits y j (walkOf y j (until.Count (termAt y j .most)) (down y) .credits)
+
+abbrev pub rule6 : Year → ℕ → Step
+rule6 y j = applied 6 y (leastCount y j)
+
+abbrev pub rule7 : Year → ℕ → Step
+rule7 y j = applied 7 y (mostCount y j)
+
+abbrev pub rule8 : Year → ℕ → Step
+rule8 y j = applied 8 y (leastLoad y j)
+
+abbrev pub rule9 : Year → ℕ → Step
+rule9 y j = applied 9 y (mostLoad y j)

@@ -16,7 +16,8 @@ use Rattle.theory.specs.Order.{keep}
 use Rattle.theory.specs.Walk.{Reached, walk}
 use Rattle.rules.specs.Spares.{blocked, stops}
 use Rattle.rules.specs.declared.Until.{Until}
-use Rattle.rules.proofs.Steps.{credits-tighter, counts-tighter}
+use Rattle.frame.proofs.Moves.{outcome-sound}
+use Rattle.year.specs.declared.Quantity.the-variants.{Credits, Counts}
 use Rattle.year.specs.Year.{courseIn}
 use Rattle.year.specs.Sound.{TermSound}
 use Rattle.year.specs.Sums.{fixedWeight, fixedOne}
@@ -99,7 +100,7 @@ module _ (w l : List ℕ) (j n : ℕ) (s : Sums) (e : s ≡ sumsTo w l n j) wher
 -- ---- what a rule leaves at a term is within the sizes
 
 pub ended-sound : (r : WalkRule) (t : Term) (w : Reached) → TermSound t → TermSound (endedOf r t w .term)
-ended-sound LeastCount t w s = counts-tighter 6 _ t (w .count) (t .most .0) s .sound
-ended-sound MostCount t w s = counts-tighter 7 _ t (t .least .0) (w .count) s .sound
-ended-sound LeastLoad t w s = credits-tighter 8 _ t (w .credits) (t .high .0) s .sound
-ended-sound MostLoad t w s = credits-tighter 9 _ t (t .low .0) (w .credits) s .sound
+ended-sound LeastCount t w s = outcome-sound 6 _ t Counts (w .count) (t .most .0) s
+ended-sound MostCount t w s = outcome-sound 7 _ t Counts (t .least .0) (w .count) s
+ended-sound LeastLoad t w s = outcome-sound 8 _ t Credits (w .credits) (t .high .0) s
+ended-sound MostLoad t w s = outcome-sound 9 _ t Credits (t .low .0) (w .credits) s

@@ -1,7 +1,8 @@
 -- Rules 6 to 9 one after another, on the bounds alone: what each walk asks of a state, and what each rule leaves.
 use Prim.Native.Nat.{ℕ, _≤_, _<_}
+use mathlib.Core.Bool.{false}
 use mathlib.Core.List.{List}
-use mathlib.Core.Path.{_≡_, sym, ap₂, subst, _∙_}
+use mathlib.Core.Path.{_≡_, sym, ap, ap₂, subst, _∙_}
 use native.Mathlib.Omega.{arith}
 use lib.ListN.{length, getD, take}
 use Rattle.theory.specs.Tab.{tab}
@@ -9,19 +10,21 @@ use Rattle.year.specs.Year.{termAt}
 use Rattle.year.specs.Sums.{fixedCredits, openCredits, fixedCount, openCount, sumsAt, sumsIn}
 use Rattle.year.specs.SumsOf.{sumsTo}
 use Rattle.year.specs.Sound.{Sound, TermSound}
+use Rattle.year.specs.declared.Quantity.the-variants.{Credits, Counts}
 use Rattle.year.specs.declared.Sums.{Sums}
 use Rattle.year.specs.declared.Year.{Year}
 use Rattle.year.proofs.SumLaws.{sums-read}
 use Rattle.rules.specs.Step.{Step, overTerms}
-use Rattle.rules.specs.Round.{bounded}
-use Rattle.rules.specs.Spares.{spares, walkOf, down, up, rule6, rule7, rule8, rule9}
-use Rattle.rules.specs.declared.Outcome.{Outcome}
-use Rattle.rules.proofs.Steps.{narrows-6, narrows-7, narrows-8, narrows-9}
+use Rattle.rules.specs.Spares.{spares, walkOf, down, up, leastCount, mostCount, leastLoad, mostLoad, rule6, rule7, rule8, rule9}
+use Rattle.rules.proofs.PlansKept.{Held}
+use Rattle.rules.proofs.KeptOver.{AtTerms}
+use Rattle.rules.proofs.RulesHeld.{rule6-held, rule7-held, rule8-held, rule9-held}
 use Rattle.frame.specs.State.{yearIn, stepIn}
-use Rattle.frame.specs.Bounds.{boundsOver, termIn}
+use Rattle.frame.specs.Bounds.{put, boundsOver, termIn}
 use Rattle.frame.specs.declared.State.{State}
 use Rattle.frame.specs.declared.Bounds.{Bounds}
-use Rattle.frame.proofs.BoundsOnly.{Tightens, BoundsOnly}
+use Rattle.frame.proofs.BoundsOnly.{BoundsOnly}
+use Rattle.frame.proofs.Moves.{raise-move, lower-move}
 use Rattle.frame.proofs.BoundsAt.{BoundsAt, at-long, at-sound, at-next}
 use Rattle.orders.specs.Orders.{ordersOf}
 use Rattle.orders.specs.declared.Orders.{Orders}
@@ -35,7 +38,7 @@ use Rattle.walks.proofs.SparingLaws.{spares-are}
 
 -- ---- the paper's rules, and the orders that they walk in
 
-abbrev pub ruleOf : WalkRule → Year → ℕ → Outcome
+abbrev pub ruleOf : WalkRule → Year → ℕ → Step
 ruleOf LeastCount = rule6
 ruleOf MostCount = rule7
 ruleOf LeastLoad = rule8
@@ -47,11 +50,11 @@ orderOf MostCount o = o .up
 orderOf LeastLoad o = o .up
 orderOf MostLoad o = o .down
 
-tightens : (r : WalkRule) → Tightens (ruleOf r)
-tightens LeastCount = narrows-6
-tightens MostCount = narrows-7
-tightens LeastLoad = narrows-8
-tightens MostLoad = narrows-9
+held : (r : WalkRule) → AtTerms Held (ruleOf r)
+held LeastCount = rule6-held
+held MostCount = rule7-held
+held LeastLoad = rule8-held
+held MostLoad = rule9-held
 
 order-fits : (r : WalkRule) (y : Year) → Sound y → OrderFits (orderOf r (ordersOf y)) (y .courses)
 order-fits LeastCount = down-fits
@@ -71,12 +74,13 @@ module _ (y : Year) (u : List Sums) (e : u ≡ tab 16 (sumsAt y)) (j : ℕ) (h :
       (spares-are y u e)
       (sums-read y u e j h)
 
-  walk-is : (r : WalkRule) → walkedAt r u (y .weight) (y .list) (orderOf r (ordersOf y)) (y .courses) (y .term) j ≡ ruleOf r y j
-  unfolding rule6 rule7 rule8 rule9 walkOf sumsAt fixedCredits fixedCount
-  walk-is LeastCount = begins LeastCount (down y)
-  walk-is MostCount = begins MostCount (up y)
-  walk-is LeastLoad = begins LeastLoad (up y)
-  walk-is MostLoad = begins MostLoad (down y)
+  -- and ends in the definition's one move
+  walk-is : (r : WalkRule) → put y j (walkedAt r u (y .weight) (y .list) (orderOf r (ordersOf y)) (y .courses) (y .term) j) ≡ ruleOf r y j
+  unfolding leastCount mostCount leastLoad mostLoad walkOf sumsAt fixedCredits fixedCount
+  walk-is LeastCount = ap (put y j) (begins LeastCount (down y)) ∙ raise-move 6 y j Counts _ _
+  walk-is MostCount = ap (put y j) (begins MostCount (up y)) ∙ lower-move 7 y j Counts _ false
+  walk-is LeastLoad = ap (put y j) (begins LeastLoad (up y)) ∙ raise-move 8 y j Credits _ _
+  walk-is MostLoad = ap (put y j) (begins MostLoad (down y)) ∙ lower-move 9 y j Credits _ false
 
 -- ---- a state before rules 6 to 9, with the orders of its year
 
@@ -99,10 +103,10 @@ module _ {w : List ℕ} {s : State} {o : Orders} (a : Ready w s o) where
   -- rule r leads from the bounds of a step to those of the next
   pub row : (r : WalkRule) {b c : Bounds} {q : Step} → BoundsAt (stepIn w s) b q
       → c ≡ boundsOver (walkedAt r (s .sums) w (s .list) (orderOf r o) (s .courses)) b (s .terms)
-      → BoundsAt (stepIn w s) c (overTerms (bounded (ruleOf r)) q)
+      → BoundsAt (stepIn w s) c (overTerms (ruleOf r) q)
   row r {b} {c} {q} g =
-      at-next (stepIn w s) b q g _ (ruleOf r) (tightens r)
-      (λ y j k h l. at-hand r y j k ∙ walk-is y (s .sums) (sym (k .sums-same) ∙ k .narrower .sound .sums-kept) j h r)
+      at-next (stepIn w s) b q g _ (ruleOf r) (held r)
+      (λ y j k h l. ap (put y j) (at-hand r y j k) ∙ walk-is y (s .sums) (sym (k .sums-same) ∙ k .narrower .sound .sums-kept) j h r)
       c
 
   fits : (r : WalkRule) → OrderFits (orderOf r o) (s .courses)

@@ -9,15 +9,15 @@ use Rattle.theory.specs.Tab.{tab}
 use Rattle.theory.specs.Order.{keep}
 use Rattle.theory.specs.Walk.{Table, Reached, walk}
 use Rattle.year.specs.Year.{courseIn, isOpen}
-use Rattle.frame.specs.Bounds.{termIn}
-use Rattle.year.specs.Tight.{creditsWithin, countsWithin}
+use Rattle.frame.specs.Bounds.{termIn, outcome}
+use Rattle.frame.specs.declared.Outcome.{Outcome}
+use Rattle.year.specs.Within.{within}
+use Rattle.year.specs.declared.Quantity.the-variants.{Credits, Counts}
 use Rattle.year.specs.declared.Term.{Term}
 use Rattle.year.specs.declared.Course.{Course}
 use Rattle.year.specs.declared.Sums.{Sums}
 use Rattle.year.specs.Sums.{sumsIn}
-use Rattle.rules.specs.Step.{outcome}
 use Rattle.rules.specs.Spares.{blocked, charged, stops}
-use Rattle.rules.specs.declared.Outcome.{Outcome}
 use Rattle.rules.specs.declared.Until.{Until}
 use Rattle.rules.specs.declared.Until.the-variants as until
 use Rattle.walks.specs.Sparing.{spareIn}
@@ -67,10 +67,10 @@ untilOf LeastLoad t = until.Count (t .least)
 untilOf MostLoad t = until.Count (t .most)
 
 abbrev pub endedOf : WalkRule → Term → Reached → Outcome
-endedOf LeastCount t w = outcome 6 (ltb (w .credits) (t .low .0)) t (countsWithin t (w .count) (t .most .0))
-endedOf MostCount t w = outcome 7 false t (countsWithin t (t .least .0) (w .count))
-endedOf LeastLoad t w = outcome 8 (ltb (w .count) (t .least .0)) t (creditsWithin t (w .credits) (t .high .0))
-endedOf MostLoad t w = outcome 9 false t (creditsWithin t (t .low .0) (w .credits))
+endedOf LeastCount t w = outcome 6 (ltb (w .credits) (t .low .0)) t (within Counts t (w .count) (t .most .0))
+endedOf MostCount t w = outcome 7 false t (within Counts t (t .least .0) (w .count))
+endedOf LeastLoad t w = outcome 8 (ltb (w .count) (t .least .0)) t (within Credits t (w .credits) (t .high .0))
+endedOf MostLoad t w = outcome 9 false t (within Credits t (t .low .0) (w .credits))
 
 -- at term j of an array: the walk over the first n courses of an order, with spares set up afresh
 abbrev pub walkedAt : WalkRule → List Sums → List ℕ → List ℕ → List ℕ → ℕ → List Term → ℕ → Outcome

@@ -4,7 +4,7 @@ use crate::Walk;
 use crate::WalkRule;
 use crate::spares;
 use frame::Bounds;
-use rules::Outcome;
+use frame::Outcome;
 use rules::Until;
 use year::Course;
 use year::Courses;
@@ -136,17 +136,17 @@ fn ended(rule: WalkRule, t: Term, w: Walk) -> Outcome
     match rule {
         WalkRule::LeastCount => {
             let short = w.credits.0 < t.low.0;
-            frame::outcome(6, short, t, tighter::counts_within(t, w.count, t.most))
+            frame::outcome_of(6, short, t, tighter::counts_within(t, w.count, t.most))
         }
         WalkRule::MostCount => {
-            frame::outcome(7, false, t, tighter::counts_within(t, t.least, w.count))
+            frame::outcome_of(7, false, t, tighter::counts_within(t, t.least, w.count))
         }
         WalkRule::LeastLoad => {
             let short = w.count.0 < t.least.0;
-            frame::outcome(8, short, t, tighter::credits_within(t, w.credits, t.high))
+            frame::outcome_of(8, short, t, tighter::credits_within(t, w.credits, t.high))
         }
         WalkRule::MostLoad => {
-            frame::outcome(9, false, t, tighter::credits_within(t, t.low, w.credits))
+            frame::outcome_of(9, false, t, tighter::credits_within(t, t.low, w.credits))
         }
     }
 }

@@ -11,7 +11,7 @@ use Rattle.theory.specs.Choice.{choose}
 use Rattle.theory.proofs.TestLaws.{or-false}
 use Rattle.year.specs.Doors.{withTerm}
 use Rattle.year.specs.Sound.{isSound, Sound}
-use Rattle.year.specs.Narrow.{answered, checked, noSuch, boundOf}
+use Rattle.year.specs.Narrow.{answered, checked, noSuch, moving}
 use Rattle.year.specs.Numbers.{narrowingNumber}
 use Rattle.year.specs.declared.Tight.{Tight}
 use Rattle.year.specs.declared.Year.{Year}
@@ -81,22 +81,25 @@ module _ (y : Year) (i j : ℕ) (a : Narrowing) (due : a ≡ checked y (noSuch y
   pub named-refused : (a ≡ Done → ⊥) → (n : Narrowed) → answered a y ≡ checked y (noSuch y i j) false n
   named-refused = due-refused y (noSuch y i j) false false a due
 
--- ---- a narrowing of the bounds of term j to w
+-- ---- a narrowing of a bound of term j, by a move w that is v
 
-module _ (y : Year) (j : ℕ) (outside : Bool) (w : Tight) (a : Narrowing)
+module _ (y : Year) (j : ℕ) (outside : Bool) (w v : Tight) (is : w ≡ v) (a : Narrowing)
     (due : a ≡ checked y (leb (y .terms) j) outside (crossing y (w .crossed) (answered Done y)) .answer) where
   pub bound-in : a ≡ Done → j < 16
   bound-in e =
       let p = due-passed y (leb (y .terms) j) outside (w .crossed) a due e in
       omega (arith, sound-of y (p .0), leb-false (y .terms) j (p .1))
 
-  pub bound-done : a ≡ Done → (z : Year) → z ≡ choose (w .altered) (withTerm y j (w .term)) y → answered a z ≡ boundOf y j outside w
+  abbrev given : Tight → Narrowed
+  given u = checked y (leb (y .terms) j) outside (moving y j u)
+
+  pub bound-done : a ≡ Done → (z : Year) → z ≡ choose (w .altered) (withTerm y j (w .term)) y → answered a z ≡ given v
   bound-done e z h =
-      ap₂ answered e h ∙ moved (w .altered) ∙ due-done y (leb (y .terms) j) outside (w .crossed) a due e _
+      ap₂ answered e h ∙ moved (w .altered) ∙ due-done y (leb (y .terms) j) outside (w .crossed) a due e _ ∙ ap given is
     where
       moved : (b : Bool) → answered Done (choose b (withTerm y j (w .term)) y) ≡ choose b (answered Done (withTerm y j (w .term))) (answered Done y)
       moved true = refl
       moved false = refl
 
-  pub bound-refused : (a ≡ Done → ⊥) → answered a y ≡ boundOf y j outside w
-  bound-refused h = due-refused y (leb (y .terms) j) outside (w .crossed) a due h _
+  pub bound-refused : (a ≡ Done → ⊥) → answered a y ≡ given v
+  bound-refused h = due-refused y (leb (y .terms) j) outside (w .crossed) a due h _ ∙ ap given is

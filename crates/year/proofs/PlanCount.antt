@@ -3,7 +3,7 @@ use Prim.Native.Nat.{ℕ, zero, suc, _≤_, _<_}
 use mathlib.Core.Bool.{Bool, true, false, _&&_, true≢false}
 use mathlib.Core.List.{List, [], _∷_, _++_, map, tail-eq-of-cons-eq, head-eq-of-cons-eq}
 use mathlib.Core.Logic.{_⊎_, inl, inr}
-use mathlib.Core.Path.{_≡_, refl, ap, sym, _∙_}
+use mathlib.Core.Path.{_≡_, refl, ap, sym, subst, _∙_}
 use native.Mathlib.Omega.{arith}
 use native.Mathlib.Decide.{ℕ-discrete}
 use lib.Dec.{eqb, leb, ltb}
@@ -17,8 +17,13 @@ use Rattle.theory.specs.Order.{keep}
 use Rattle.theory.proofs.SumLaws.{sum-cong}
 use Rattle.theory.proofs.TabLaws.{getD-tab, tab-getD}
 use Rattle.theory.proofs.TestLaws.{all-at, all-of, and-true, and-of}
-use Rattle.year.specs.Year.{courseAt, weight, lists, lowCredits, highCredits, lowCount, highCount}
-use Rattle.year.specs.Plans.{Placing, Plan, creditsIn, countIn, stands, fitsIn, isPlan, rowOf, placingOf, behind, rows, plansOf, Among, EachPlanOnce}
+use Rattle.year.specs.Year.{courseAt, lists, lowCredits, highCredits, lowCount, highCount}
+use Rattle.year.specs.Bound.{bound, Keeps}
+use Rattle.year.specs.Plans.{Placing, amount, putIn, Plan, creditsIn, countIn, stands, fitsIn, isPlan, rowOf, placingOf, behind, rows, plansOf, Among, EachPlanOnce}
+use Rattle.year.specs.declared.Quantity.{Quantity}
+use Rattle.year.specs.declared.Quantity.the-variants.{Credits, Counts}
+use Rattle.year.specs.declared.Side.{Side}
+use Rattle.year.specs.declared.Side.the-variants.{Low, High}
 use Rattle.year.specs.declared.Year.{Year}
 
 -- ---- the test is the plan
@@ -36,10 +41,7 @@ unfolding isPlan
 plan-of-test y p e = record {
   within = λ i l. ltb-true _ _ (of-course i l .0);
   listed = λ i l. of-course i l .1;
-  credits-low = λ k l. of-term k l .0;
-  credits-high = λ k l. of-term k l .1;
-  count-low = λ k l. of-term k l .2;
-  count-high = λ k l. of-term k l .3;
+  bounds = each;
 }
   where
     parts : (all (y .courses) (stands y p) ≡ true) × (all (y .terms) (fitsIn y p) ≡ true)
@@ -51,29 +53,29 @@ plan-of-test y p e = record {
     of-term : (k : ℕ) → k < y .terms → (lowCredits y k ≤ creditsIn y p k) × (creditsIn y p k ≤ highCredits y k) × (lowCount y k ≤ countIn y p k) × (countIn y p k ≤ highCount y k)
     of-term k l = fits-of (lowCredits y k) (highCredits y k) (creditsIn y p k) (countIn y p k) (lowCount y k) (highCount y k) (all-at (y .terms) (fitsIn y p) (parts .1) k l)
 
+    each : (s : Side) (q : Quantity) (k : ℕ) → k < y .terms → Keeps s (bound s q y k) (putIn q y p k)
+    each Low Credits k l = of-term k l .0
+    each High Credits k l = of-term k l .1
+    each Low Counts k l = of-term k l .2
+    each High Counts k l = of-term k l .3
+
 pub test-of-plan : (y : Year) (p : Placing) → Plan y p → isPlan y p ≡ true
 unfolding isPlan
 test-of-plan y p h =
     and-of (all (y .courses) (stands y p)) (all (y .terms) (fitsIn y p))
     (all-of (y .courses) (stands y p) (λ i l. and-of (ltb (p i) (y .terms)) (lists (courseAt y i) (p i)) (lt-ltb _ _ (h .within i l)) (h .listed i l)))
-    (all-of (y .terms) (fitsIn y p) (λ k l. simp (le-leb _ _ (h .credits-low k l), le-leb _ _ (h .credits-high k l), le-leb _ _ (h .count-low k l), le-leb _ _ (h .count-high k l))))
+    (all-of (y .terms) (fitsIn y p) (λ k l. simp (le-leb _ _ (h .bounds Low Credits k l), le-leb _ _ (h .bounds High Credits k l), le-leb _ _ (h .bounds Low Counts k l), le-leb _ _ (h .bounds High Counts k l))))
 
 -- what a placing says of courses past the last is no matter
-plan-cong : (y : Year) (p q : Placing) → ((i : ℕ) → i < y .courses → p i ≡ q i) → Plan y p → Plan y q
-plan-cong y p q h a = record {
+plan-cong : (y : Year) (p r : Placing) → ((i : ℕ) → i < y .courses → p i ≡ r i) → Plan y p → Plan y r
+plan-cong y p r h a = record {
   within = λ i l. rw (sym (h i l)) (a .within i l);
   listed = λ i l. rw (sym (h i l)) (a .listed i l);
-  credits-low = λ k l. omega (arith, credits k, a .credits-low k l);
-  credits-high = λ k l. omega (arith, credits k, a .credits-high k l);
-  count-low = λ k l. omega (arith, count k, a .count-low k l);
-  count-high = λ k l. omega (arith, count k, a .count-high k l);
+  bounds = λ s q k l. subst (Keeps s (bound s q y k)) (same q k) (a .bounds s q k l);
 }
   where
-    credits : (k : ℕ) → creditsIn y p k ≡ creditsIn y q k
-    credits k = sum-cong (y .courses) _ _ (λ i l. ap (λ j. pick (eqb j k) (weight y i)) (h i l))
-
-    count : (k : ℕ) → countIn y p k ≡ countIn y q k
-    count k = sum-cong (y .courses) _ _ (λ i l. ap (λ j. pick (eqb j k) 1) (h i l))
+    same : (q : Quantity) (k : ℕ) → putIn q y p k ≡ putIn q y r k
+    same q k = sum-cong (y .courses) _ _ (λ i l. ap (λ j. pick (eqb j k) (amount q (y .weight) i)) (h i l))
 
 -- ---- where a row stands
 

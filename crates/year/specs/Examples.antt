@@ -1,6 +1,6 @@
 -- Closed examples, by computation: year E of the paper and its plans, and each answer of the narrowings and of the imbalance.
 use Prim.Native.Nat.{ℕ, suc, _*_, _^_}
-use mathlib.Core.Bool.{true, false}
+use mathlib.Core.Bool.{Bool, true, false}
 use mathlib.Core.List.{List, [], _∷_, _++_}
 use mathlib.Core.Path.{_≡_, refl}
 use lib.ListN.{length, replicate, take, set}
@@ -9,18 +9,21 @@ use Rattle.theory.specs.Pairs.{square}
 use Rattle.theory.specs.Tests.{all, any}
 use Rattle.theory.specs.Order.{keep}
 use Rattle.year.specs.Year.{termOf, courseOf, zeroTerm, zeroCourse, courseAt}
+use Rattle.year.specs.Bound.{tightened}
 use Rattle.year.specs.Doors.{emptyYear, withSums, placed, struck, withList, withTerm}
 use Rattle.year.specs.ByHand.{summedOf, unsummed, byHand}
 use Rattle.year.specs.Computing.{computing}
 use Rattle.year.specs.Sound.{isSound}
 use Rattle.year.specs.Sums.{sumsOf, noSums, sumsIn, allCredits, isPlaced, allPlaced}
-use Rattle.year.specs.Tight.{creditsWithin, countsWithin}
 use Rattle.year.specs.Narrow.{answered, placeOf, barOf, raiseLowCreditsOf, lowerHighCreditsOf, raiseLowCountOf, lowerHighCountOf}
 use Rattle.year.specs.Imbalance.{onePlan, imbalanceOf}
 use Rattle.year.specs.Plans.{isPlan, behind, rows, plansOf, countOfPlans}
 use Rattle.year.specs.declared.Term.{Term}
 use Rattle.year.specs.declared.Course.{Course}
+use Rattle.year.specs.declared.Quantity.the-variants.{Credits, Counts}
+use Rattle.year.specs.declared.Side.the-variants.{Low, High}
 use Rattle.year.specs.declared.Sums.{Sums}
+use Rattle.year.specs.declared.Tight.{Tight}
 use Rattle.year.specs.declared.Year.{Year}
 use Rattle.year.specs.declared.Narrowing.the-variants.{Done, Unsound, Missing, Outside, Crossing}
 use Rattle.year.specs.declared.Measured.the-variants as measured
@@ -242,7 +245,7 @@ pub sums-refused : (placeOf offE 0 0 ≡ answered Unsound offE)
     × (lowerHighCreditsOf offE 0 1 ≡ answered Unsound offE)
     × (raiseLowCountOf offE 0 1 ≡ answered Unsound offE)
     × (lowerHighCountOf offE 0 1 ≡ answered Unsound offE)
-unfolding placeOf barOf raiseLowCreditsOf lowerHighCreditsOf raiseLowCountOf lowerHighCountOf computing
+unfolding placeOf barOf computing
 sums-refused = (refl, refl, refl, refl, refl, refl)
 
 -- an unsound year is refused first
@@ -250,52 +253,83 @@ pub unsound-first : placeOf foreignE 3 0 ≡ answered Unsound foreignE
 unfolding placeOf computing
 unsound-first = refl
 
+-- ---- a move of one bound
+
+abbrev pub tightAs : Term → Bool → Bool → Tight
+tightAs t a c = record { term = t; altered = a; crossed = c }
+
+-- credits of 2 to 5, a count of 1 to 3
+abbrev pub within25 : Term
+within25 = termOf 2 5 1 3
+
+pub moves-each : (tightened Low Credits within25 3 ≡ tightAs (termOf 3 5 1 3) true false)
+    × (tightened High Credits within25 4 ≡ tightAs (termOf 2 4 1 3) true false)
+    × (tightened Low Counts within25 2 ≡ tightAs (termOf 2 5 2 3) true false)
+    × (tightened High Counts within25 2 ≡ tightAs (termOf 2 5 1 2) true false)
+unfolding computing
+moves-each = (refl, refl, refl, refl)
+
+pub never-loosens : (tightened Low Credits within25 1 ≡ tightAs within25 false false)
+    × (tightened High Credits within25 6 ≡ tightAs within25 false false)
+    × (tightened Low Counts within25 1 ≡ tightAs within25 false false)
+    × (tightened High Counts within25 4 ≡ tightAs within25 false false)
+unfolding computing
+never-loosens = (refl, refl, refl, refl)
+
+-- up to its opposite, and past it
+pub crosses-past : (tightened Low Credits within25 5 ≡ tightAs (termOf 5 5 1 3) true false)
+    × (tightened Low Credits within25 6 ≡ tightAs (termOf 6 5 1 3) true true)
+    × (tightened High Counts within25 1 ≡ tightAs (termOf 2 5 1 1) true false)
+    × (tightened High Counts within25 0 ≡ tightAs (termOf 2 5 1 0) true true)
+unfolding computing
+crosses-past = (refl, refl, refl, refl)
+
 -- ---- bounds
 
 pub raises : raiseLowCreditsOf yearE 0 4 ≡ answered Done (withTerm yearE 0 (termOf 4 4 0 3))
-unfolding raiseLowCreditsOf creditsWithin computing
+unfolding computing
 raises = refl
 
 pub lowers : lowerHighCountOf yearE 1 0 ≡ answered Done (withTerm yearE 1 (termOf 0 6 0 0))
-unfolding lowerHighCountOf countsWithin computing
+unfolding computing
 lowers = refl
 
 -- no tighter: done, and nothing altered
 pub raises-nothing : raiseLowCountOf yearE 0 0 ≡ answered Done yearE
-unfolding raiseLowCountOf countsWithin computing
+unfolding computing
 raises-nothing = refl
 
 pub lowers-nothing : lowerHighCreditsOf yearE 0 4 ≡ answered Done yearE
-unfolding lowerHighCreditsOf creditsWithin computing
+unfolding computing
 lowers-nothing = refl
 
 -- a low bound above its high bound
 pub crosses : raiseLowCreditsOf yearE 0 5 ≡ answered Crossing yearE
-unfolding raiseLowCreditsOf creditsWithin computing
+unfolding computing
 crosses = refl
 
 -- the largest bound of the sizes, which crosses or is no tighter here, and one past it
 pub largest-credits : (raiseLowCreditsOf yearE 0 64000 ≡ answered Crossing yearE)
     × (lowerHighCreditsOf yearE 0 64000 ≡ answered Done yearE)
-unfolding raiseLowCreditsOf lowerHighCreditsOf creditsWithin computing
+unfolding computing
 largest-credits = (refl, refl)
 
 pub outside-credits : (raiseLowCreditsOf yearE 0 64001 ≡ answered Outside yearE)
     × (lowerHighCreditsOf yearE 0 64001 ≡ answered Outside yearE)
-unfolding raiseLowCreditsOf lowerHighCreditsOf creditsWithin computing
+unfolding computing
 outside-credits = (refl, refl)
 
 pub largest-count : (raiseLowCountOf yearE 0 64 ≡ answered Crossing yearE) × (lowerHighCountOf yearE 0 64 ≡ answered Done yearE)
-unfolding raiseLowCountOf lowerHighCountOf countsWithin computing
+unfolding computing
 largest-count = (refl, refl)
 
 pub outside-count : (raiseLowCountOf yearE 0 65 ≡ answered Outside yearE) × (lowerHighCountOf yearE 0 65 ≡ answered Outside yearE)
-unfolding raiseLowCountOf lowerHighCountOf countsWithin computing
+unfolding computing
 outside-count = (refl, refl)
 
 -- of a term that the year lacks, the term is refused first
 pub missing-first : raiseLowCountOf yearE 2 65 ≡ answered Missing yearE
-unfolding raiseLowCountOf countsWithin computing
+unfolding computing
 missing-first = refl
 
 -- ---- imbalance

@@ -3,10 +3,14 @@ use Prim.Native.Nat.{ℕ, _^_}
 use mathlib.Core.Bool.{Bool, false, _||_}
 use lib.Dec.{eqb, leb, ltb}
 use Rattle.theory.specs.Choice.{choose}
-use Rattle.year.specs.Year.{termAt, courseAt, list, lists, lowCredits, highCredits, lowCount, highCount}
+use Rattle.year.specs.Year.{termAt, courseAt, list, lists}
+use Rattle.year.specs.Bound.{largestBound, tightened}
 use Rattle.year.specs.Doors.{withTerm, placed, struck}
 use Rattle.year.specs.Sound.{isSound}
-use Rattle.year.specs.Tight.{creditsWithin, countsWithin}
+use Rattle.year.specs.declared.Quantity.{Quantity}
+use Rattle.year.specs.declared.Quantity.the-variants.{Credits, Counts}
+use Rattle.year.specs.declared.Side.{Side}
+use Rattle.year.specs.declared.Side.the-variants.{Low, High}
 use Rattle.year.specs.declared.Tight.{Tight}
 use Rattle.year.specs.declared.Year.{Year}
 use Rattle.year.specs.declared.Narrowing.{Narrowing}
@@ -46,21 +50,22 @@ barOf y i j = checked y (noSuch y i j) false (barring y i j)
 
 -- ---- bounds
 
--- term j with tighter bounds, unless they cross
-abbrev pub tightened : Year → ℕ → Tight → Narrowed
-tightened y j w = choose (w .crossed) (answered Crossing y) (choose (w .altered) (answered Done (withTerm y j (w .term))) (answered Done y))
+-- term j with a tighter bound, unless that crosses
+abbrev pub moving : Year → ℕ → Tight → Narrowed
+moving y j w = choose (w .crossed) (answered Crossing y) (choose (w .altered) (answered Done (withTerm y j (w .term))) (answered Done y))
 
-abbrev pub boundOf : Year → ℕ → Bool → Tight → Narrowed
-boundOf y j outside w = checked y (leb (y .terms) j) outside (tightened y j w)
+unfoldable pub tightenOf : Side → Quantity → Year → ℕ → ℕ → Narrowed
+tightenOf s q y j v = checked y (leb (y .terms) j) (ltb (largestBound q) v) (moving y j (tightened s q (termAt y j) v))
 
-unfoldable pub raiseLowCreditsOf : Year → ℕ → ℕ → Narrowed
-raiseLowCreditsOf y j v = boundOf y j (ltb 64000 v) (creditsWithin (termAt y j) v (highCredits y j))
+-- by the calls' names
+abbrev pub raiseLowCreditsOf : Year → ℕ → ℕ → Narrowed
+raiseLowCreditsOf = tightenOf Low Credits
 
-unfoldable pub lowerHighCreditsOf : Year → ℕ → ℕ → Narrowed
-lowerHighCreditsOf y j v = boundOf y j (ltb 64000 v) (creditsWithin (termAt y j) (lowCredits y j) v)
+abbrev pub lowerHighCreditsOf : Year → ℕ → ℕ → Narrowed
+lowerHighCreditsOf = tightenOf High Credits
 
-unfoldable pub raiseLowCountOf : Year → ℕ → ℕ → Narrowed
-raiseLowCountOf y j v = boundOf y j (ltb 64 v) (countsWithin (termAt y j) v (highCount y j))
+abbrev pub raiseLowCountOf : Year → ℕ → ℕ → Narrowed
+raiseLowCountOf = tightenOf Low Counts
 
-unfoldable pub lowerHighCountOf : Year → ℕ → ℕ → Narrowed
-lowerHighCountOf y j v = boundOf y j (ltb 64 v) (countsWithin (termAt y j) (lowCount y j) v)
+abbrev pub lowerHighCountOf : Year → ℕ → ℕ → Narrowed
+lowerHighCountOf = tightenOf High Counts

@@ -1,5 +1,5 @@
 -- What a placing and a plan are; the one placing where every course has one term; the plans of a small year by trying all placings.
-use Prim.Native.Nat.{ℕ, zero, suc, _^_, _≤_, _<_}
+use Prim.Native.Nat.{ℕ, zero, suc, _^_, _<_}
 use mathlib.Core.Bool.{Bool, true, _&&_}
 use mathlib.Core.List.{List, [], _∷_, _++_, map}
 use mathlib.Core.Path.{_≡_}
@@ -9,30 +9,38 @@ use Rattle.theory.specs.Sum.{pick, sum}
 use Rattle.theory.specs.Tests.{all}
 use Rattle.theory.specs.Tab.{tab}
 use Rattle.theory.specs.Order.{keep}
-use Rattle.year.specs.Year.{termAt, courseAt, weight, list, lists, isFixed, lowCredits, highCredits, lowCount, highCount}
+use Rattle.year.specs.Year.{termAt, courseAt, list, lists, isFixed}
+use Rattle.year.specs.Bound.{bound, Keeps}
 use Rattle.year.specs.Imbalance.{fits}
 use Rattle.year.specs.declared.Course.{Course}
+use Rattle.year.specs.declared.Quantity.{Quantity}
+use Rattle.year.specs.declared.Quantity.the-variants.{Credits, Counts}
+use Rattle.year.specs.declared.Side.{Side}
 use Rattle.year.specs.declared.Year.{Year}
 
 -- a placing puts each course i of a year into the term p i
 abbrev pub Placing : Type 0
 Placing = ℕ → ℕ
 
--- the credits and the number of the courses that p puts into term k
+-- what course i of the weights w adds to a quantity, and what the courses add that p puts into term k
+abbrev pub amount : Quantity → List ℕ → ℕ → ℕ
+amount Credits w i = getD w i 0
+amount Counts w i = 1
+
+abbrev pub putIn : Quantity → Year → Placing → ℕ → ℕ
+putIn q y p k = sum (y .courses) (λ i. pick (eqb (p i) k) (amount q (y .weight) i))
+
 abbrev pub creditsIn : Year → Placing → ℕ → ℕ
-creditsIn y p k = sum (y .courses) (λ i. pick (eqb (p i) k) (weight y i))
+creditsIn = putIn Credits
 
 abbrev pub countIn : Year → Placing → ℕ → ℕ
-countIn y p k = sum (y .courses) (λ i. pick (eqb (p i) k) 1)
+countIn = putIn Counts
 
--- a plan: each course stands in a term of the year that its list has, and each term is within its bounds
+-- a plan: each course stands in a term of the year that its list has, and each term keeps its bounds
 pub record Plan (y : Year) (p : Placing) : Type 0 where
   pub within : (i : ℕ) → i < y .courses → p i < y .terms
   pub listed : (i : ℕ) → i < y .courses → lists (courseAt y i) (p i) ≡ true
-  pub credits-low : (k : ℕ) → k < y .terms → lowCredits y k ≤ creditsIn y p k
-  pub credits-high : (k : ℕ) → k < y .terms → creditsIn y p k ≤ highCredits y k
-  pub count-low : (k : ℕ) → k < y .terms → lowCount y k ≤ countIn y p k
-  pub count-high : (k : ℕ) → k < y .terms → countIn y p k ≤ highCount y k
+  pub bounds : (s : Side) (q : Quantity) (k : ℕ) → k < y .terms → Keeps s (bound s q y k) (putIn q y p k)
 
 -- ---- the one placing
 

@@ -8,6 +8,8 @@ use Rattle.theory.specs.Sum.{pick, sum}
 use Rattle.theory.specs.Tests.{any, all}
 use Rattle.year.specs.Year.{courseIn, courseAt, weight, isFixed, isOpen}
 use Rattle.year.specs.declared.Course.{Course}
+use Rattle.year.specs.declared.Quantity.{Quantity}
+use Rattle.year.specs.declared.Quantity.the-variants.{Credits, Counts}
 use Rattle.year.specs.declared.Sums.{Sums}
 use Rattle.year.specs.declared.Year.{Year}
 
@@ -70,6 +72,22 @@ allCredits y = sum (y .courses) (weight y)
 -- n: all courses
 abbrev pub allCourses : Year → ℕ
 allCourses y = y .courses
+
+-- ---- by quantity
+
+abbrev pub fixedOf : Quantity → Year → ℕ → ℕ
+fixedOf Credits y j = fixedCredits y j
+fixedOf Counts y j = fixedCount y j
+
+abbrev pub openOf : Quantity → Year → ℕ → ℕ
+openOf Credits y j = openCredits y j
+openOf Counts y j = openCount y j
+
+abbrev pub allOf : Quantity → Year → ℕ
+allOf Credits y = allCredits y
+allOf Counts y = allCourses y
+
+-- ---- courses that are placed
 
 -- the course has one term
 unfoldable pub isPlaced : Course → Bool

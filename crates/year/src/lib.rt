@@ -52,6 +52,17 @@ pub struct Year {
     pub sums: [Sums; Year::TERMS],
 }
 
+// What a bound is of: a term's credits or the number of its courses. Each has a bound on either side.
+pub enum Quantity {
+    Credits,
+    Counts,
+}
+
+pub enum Side {
+    Low,
+    High,
+}
+
 // A term after its bounds were made tighter: whether one moved, and whether a pair crossed.
 pub struct Tight {
     pub term: Term,

@@ -5,7 +5,8 @@ use crate::Term;
 use crate::Tight;
 ghost use mathlib.Core.Path.{_≡_};
 ghost use Prim.Native.Nat.{_-_, max, min};
-ghost use Rattle.year.specs.Tight.{creditsWithin, countsWithin};
+ghost use Rattle.year.specs.Within.{within};
+ghost use Rattle.year.specs.declared.Quantity.the-variants as quantity;
 
 fn larger(a: u32, b: u32) -> u32
     ensures { λ r. ⌜ r ≡ max a b ⌝ }
@@ -28,7 +29,7 @@ pub fn less(a: u32, b: u32) -> u32
 
 // Low credits raised to a, high credits lowered to b.
 pub fn credits_within(t: Term, a: Credits, b: Credits) -> Tight
-    ensures { λ r. ⌜ r ≡ creditsWithin t (a .0) (b .0) ⌝ }
+    ensures { λ r. ⌜ r ≡ within quantity.Credits t (a .0) (b .0) ⌝ }
 {
     let low = larger(t.low.0, a.0);
     let high = smaller(t.high.0, b.0);
@@ -48,7 +49,7 @@ pub fn credits_within(t: Term, a: Credits, b: Credits) -> Tight
 
 // Low count raised to a, high count lowered to b.
 pub fn counts_within(t: Term, a: Courses, b: Courses) -> Tight
-    ensures { λ r. ⌜ r ≡ countsWithin t (a .0) (b .0) ⌝ }
+    ensures { λ r. ⌜ r ≡ within quantity.Counts t (a .0) (b .0) ⌝ }
 {
     let least = larger(t.least.0, a.0);
     let most = smaller(t.most.0, b.0);

@@ -1,10 +1,12 @@
 //! Seeded makers of years and lists: small years dense in every rule, years with a
 //! hidden plan, the edges of every size, damaged lists, arbitrary bytes, years whose
 //! courses are placed, to be measured, and crowded years, for rule 11. And of pairs of
-//! lists, to be joined.
+//! lists, to be joined, and of years with few placings, to try them all.
 
+mod few;
 mod pairs;
 
+pub use few::{years_with_few_placings, FewKind};
 pub use pairs::{pair_of_kind, Pair, PairKind, PAIR_KINDS};
 
 use crate::filter::{filter, Answer};
@@ -32,6 +34,12 @@ impl Random {
     /// have their places far behind those of lists, which may become more.
     pub fn for_pair(seed: u64, kind: PairKind, index: u64) -> Random {
         Random::for_place(seed, 1_000 + kind as u64, index)
+    }
+
+    /// The generator for one numbered year with few placings, of one kind, from a run's
+    /// seed.
+    pub fn for_few(seed: u64, kind: FewKind, index: u64) -> Random {
+        Random::for_place(seed, 2_000 + kind as u64, index)
     }
 
     fn for_place(seed: u64, place: u64, index: u64) -> Random {

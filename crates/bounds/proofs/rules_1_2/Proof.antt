@@ -3,10 +3,11 @@ use mathlib.Core.Path.{refl, _∙_}
 use borrow.Author.Needs.{needs}
 use Rattle.rules.specs.Step.{overTerms, Step}
 use Rattle.frame.specs.State.{yearIn, stepIn}
+use Rattle.year.specs.declared.Quantity.the-variants.{Credits}
 use Rattle.rules.specs.Bounds.{rule1}
-use Rattle.rules.specs.Round.{bounded}
 use Rattle.frame.proofs.BoundsAt.{BoundsAt, at-start, at-long, at-sound, at-end, sums-fit}
-use Rattle.bounds.proofs.BoundsRows.{row-1, row-2}
+use Rattle.bounds.specs.declared.Whole.the-variants as whole
+use Rattle.bounds.proofs.BoundsRows.{row-own, row-other}
 use Rattle.bounds.proofs.rules_1_2.Statement.{statement}
 use Rattle.bounds.proofs.rules_1_2.Tie as tie
 
@@ -16,11 +17,11 @@ from b = stepIn (b .args .weight .now) (b .args .s)
 starts : (c : tie.After-bounds-of) → BoundsAt (from (c .before .before .before)) (c .bounds-of .result) (from (c .before .before .before))
 starts c = let b = c .before .before .before in at-start (from b) (c .bounds-of .result) (b .pre .0) (c .bounds-of .ensures)
 
-first : (c : tie.After-over-own-sums) → BoundsAt (from (c .before .before .before .before)) (c .over-own-sums .result) (overTerms (bounded rule1) (from (c .before .before .before .before)))
+first : (c : tie.After-over-own-sums) → BoundsAt (from (c .before .before .before .before)) (c .over-own-sums .result) (overTerms rule1 (from (c .before .before .before .before)))
 first c =
     let b = c .before .before .before .before in
     let w = b .args .weight .now in
-    row-1 (from b) (c .before .bounds-of .result) (from b) (starts (c .before)) (c .over-own-sums .result) (c .over-own-sums .ensures)
+    row-own (from b) (c .before .bounds-of .result) (from b) (starts (c .before)) Credits (c .over-own-sums .result) (c .over-own-sums .ensures)
 
 bounds-of-requires : tie.Need-bounds-of-requires
 bounds-of-requires c κs = search needs
@@ -47,7 +48,7 @@ returns : tie.Need-returns
 returns c =
     let b = c .before .before .before .before .before .before in
     let r = c .before .over-other-terms .result in
-    let second = row-2 (from b) (c .before .before .over-own-sums .result) _ (first (c .before .before)) r (b .args .all) (b .pre .1) (c .before .over-other-terms .ensures) in
+    let second = row-other (from b) (c .before .before .over-own-sums .result) _ (first (c .before .before)) (whole.Credits (b .args .all)) r (b .pre .1) (c .before .over-other-terms .ensures) in
     c .with-bounds .ensures ∙ at-end (from b) r _ second (b .args .s) refl
 
 pub rules-1-2-spec : {M : Type 1} → statement M

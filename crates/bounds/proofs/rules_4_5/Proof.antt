@@ -3,10 +3,11 @@ use mathlib.Core.Path.{refl, _∙_}
 use borrow.Author.Needs.{needs}
 use Rattle.rules.specs.Step.{overTerms, Step}
 use Rattle.frame.specs.State.{yearIn, stepIn}
+use Rattle.year.specs.declared.Quantity.the-variants.{Counts}
 use Rattle.rules.specs.Bounds.{rule4}
-use Rattle.rules.specs.Round.{bounded}
 use Rattle.frame.proofs.BoundsAt.{BoundsAt, at-start, at-long, at-sound, at-end, sums-fit}
-use Rattle.bounds.proofs.BoundsRows.{row-4, row-5}
+use Rattle.bounds.specs.declared.Whole.the-variants as whole
+use Rattle.bounds.proofs.BoundsRows.{row-own, row-other}
 use Rattle.bounds.proofs.rules_4_5.Statement.{statement}
 use Rattle.bounds.proofs.rules_4_5.Tie as tie
 
@@ -16,11 +17,11 @@ from b = stepIn (b .args .weight .now) (b .args .s)
 starts : (c : tie.After-bounds-of) → BoundsAt (from (c .before .before .before)) (c .bounds-of .result) (from (c .before .before .before))
 starts c = let b = c .before .before .before in at-start (from b) (c .bounds-of .result) (b .pre) (c .bounds-of .ensures)
 
-fourth : (c : tie.After-over-own-sums) → BoundsAt (from (c .before .before .before .before)) (c .over-own-sums .result) (overTerms (bounded rule4) (from (c .before .before .before .before)))
+fourth : (c : tie.After-over-own-sums) → BoundsAt (from (c .before .before .before .before)) (c .over-own-sums .result) (overTerms rule4 (from (c .before .before .before .before)))
 fourth c =
     let b = c .before .before .before .before in
     let w = b .args .weight .now in
-    row-4 (from b) (c .before .bounds-of .result) (from b) (starts (c .before)) (c .over-own-sums .result) (c .over-own-sums .ensures)
+    row-own (from b) (c .before .bounds-of .result) (from b) (starts (c .before)) Counts (c .over-own-sums .result) (c .over-own-sums .ensures)
 
 bounds-of-requires : tie.Need-bounds-of-requires
 bounds-of-requires c κs = search needs
@@ -50,7 +51,7 @@ returns : tie.Need-returns
 returns c =
     let b = c .before .before .before .before .before .before .before in
     let r = c .before .over-other-terms .result in
-    let fifth = row-5 (from b) (c .before .before .before .over-own-sums .result) _ (fourth (c .before .before .before)) r _ refl (c .before .over-other-terms .ensures) in
+    let fifth = row-other (from b) (c .before .before .before .over-own-sums .result) _ (fourth (c .before .before .before)) (whole.Counts _) r refl (c .before .over-other-terms .ensures) in
     c .with-bounds .ensures ∙ at-end (from b) r _ fifth (b .args .s) refl
 
 pub rules-4-5-spec : {M : Type 1} → statement M

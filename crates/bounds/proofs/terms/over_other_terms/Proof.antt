@@ -8,8 +8,8 @@ use lib.ListN.{length}
 use borrow.Author.Needs.{needs}
 use Rattle.theory.specs.Fold.{fold}
 use Rattle.year.specs.Sound.{TermSound}
-use Rattle.rules.specs.declared.Outcome.{Outcome}
-use Rattle.bounds.specs.AtTerm.{totalsTo, otherTermsOf, otherTermsAt}
+use Rattle.frame.specs.declared.Outcome.{Outcome}
+use Rattle.bounds.specs.AtTerm.{totalsTo, otherTermsBy, otherTermsAt}
 use Rattle.frame.specs.Bounds.{boundsOver, termIn}
 use Rattle.frame.specs.declared.Bounds.{Bounds}
 use Rattle.bounds.specs.declared.Totals.{Totals}
@@ -41,7 +41,7 @@ long l = ap (λ (z : Bounds). length (z .term)) (l .loop .inv .1) ∙ over-long 
 
 -- the outcome of a term-turn with totals x; its term is within the sizes
 abbrev outcomeAt : tie.At-loop Inv-loop μ-loop → Totals → Outcome
-outcomeAt l = otherTermsOf (start l .args .all) (termIn (l .loop .z .term) (l .loop .j))
+outcomeAt l = otherTermsBy (start l .args .all) (termIn (l .loop .z .term) (l .loop .j))
 
 new : (l : tie.At-loop Inv-loop μ-loop) → l .loop .j < 16 → (o : Outcome) → o ≡ outcomeAt l (l .loop .x) → TermSound (o .term)
 new l h o e =

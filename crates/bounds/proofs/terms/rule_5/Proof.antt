@@ -18,14 +18,14 @@ less-requires-4 c κs = search needs
 counts-within-requires : tie.Need-counts-within-requires
 counts-within-requires c κs = search needs
 
-outcome-requires : tie.Need-outcome-requires
-outcome-requires c κs = search needs
+outcome-of-requires : tie.Need-outcome-of-requires
+outcome-of-requires c κs = search needs
 
 returns : tie.Need-returns
 returns c =
     let w = c .before in
     let l = w .before .before .before in
-    rw (w .counts-within .ensures, l .less4 .ensures, l .before .less3 .ensures, l .before .before .less2 .ensures, l .before .before .before .less .ensures) at (c .outcome .ensures)
+    rw (w .counts-within .ensures, l .less4 .ensures, l .before .less3 .ensures, l .before .before .less2 .ensures, l .before .before .before .less .ensures) at (c .outcome-of .ensures)
 
 pub rule-5-spec : {M : Type 1} → statement M
 rule-5-spec =
@@ -36,5 +36,5 @@ rule-5-spec =
     less-requires-3
     less-requires-4
     counts-within-requires
-    outcome-requires
+    outcome-of-requires
     returns)

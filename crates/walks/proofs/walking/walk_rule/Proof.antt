@@ -11,7 +11,7 @@ use Rattle.theory.specs.Tab.{tab}
 use Rattle.theory.proofs.TabLaws.{length-tab}
 use Rattle.year.specs.Sound.{TermSound}
 use Rattle.year.specs.Sums.{sumsIn}
-use Rattle.rules.specs.declared.Outcome.{Outcome}
+use Rattle.frame.specs.declared.Outcome.{Outcome}
 use Rattle.frame.specs.Bounds.{boundsOver, leastIn, termIn}
 use Rattle.frame.specs.declared.Bounds.{Bounds}
 use Rattle.frame.proofs.BoundsAt.{stored-sound}

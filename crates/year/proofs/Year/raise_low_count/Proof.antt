@@ -1,7 +1,10 @@
 -- The term that is read and its bounds made tighter are the definition's; a refusal leaves the year as it was.
+use mathlib.Core.Path.{refl, _∙_}
 use lib.Dec.{ltb}
 use borrow.Author.Needs.{needs}
-use Rattle.year.specs.Narrow.{raiseLowCountOf}
+use Rattle.year.specs.Narrow.{tightenOf}
+use Rattle.year.specs.declared.Quantity.the-variants.{Counts}
+use Rattle.year.proofs.BoundLaws.{within-raise}
 use Rattle.year.proofs.CheckLaws.{bound-in, bound-done, bound-refused, no-refusal}
 use Rattle.year.proofs.Year.raise_low_count.Statement.{statement}
 use Rattle.year.proofs.Year.raise_low_count.Tie as tie
@@ -22,24 +25,24 @@ bounded-requires : tie.Need-bounded-requires
 bounded-requires c κs =
     let w = c .before .before .before .before .before .before in
     let b = w .before .before .args in
-    bound-in (b .self) (b .j) (ltb 64 (b .v .0)) (w .counts-within .result) _ (c .before .before .checked .ensures) (c .enum-told .given .1)
+    bound-in (b .self) (b .j) (ltb 64 (b .v .0)) (w .counts-within .result) _ refl _ (c .before .before .checked .ensures) (c .enum-told .given .1)
 
 returns : tie.Need-returns
-unfolding raiseLowCountOf
+unfolding tightenOf
 returns c =
     let t = c .before in
     let w = t .before .before .before .before .before .before in
     let b = w .before .before .args in
-    rw (w .counts-within .ensures, w .before .term-or-zero .ensures) at
-    (bound-done (b .self) (b .j) (ltb 64 (b .v .0)) (w .counts-within .result) _ (t .before .before .checked .ensures) (t .enum-told .given .1) _ (c .bounded .ensures))
+    let is = (rw (w .before .term-or-zero .ensures) at (w .counts-within .ensures)) ∙ within-raise Counts _ (b .v .0) in
+    bound-done (b .self) (b .j) (ltb 64 (b .v .0)) (w .counts-within .result) _ is _ (t .before .before .checked .ensures) (t .enum-told .given .1) _ (c .bounded .ensures)
 
 returns-2 : tie.Need-returns-2
-unfolding raiseLowCountOf
+unfolding tightenOf
 returns-2 c =
     let w = c .before .before .before .before .before in
     let b = w .before .before .args in
-    rw (w .counts-within .ensures, w .before .term-or-zero .ensures) at
-    (bound-refused (b .self) (b .j) (ltb 64 (b .v .0)) (w .counts-within .result) _ (c .before .checked .ensures) (λ e. no-refusal (rw e at (c .match .keys2))))
+    let is = (rw (w .before .term-or-zero .ensures) at (w .counts-within .ensures)) ∙ within-raise Counts _ (b .v .0) in
+    bound-refused (b .self) (b .j) (ltb 64 (b .v .0)) (w .counts-within .result) _ is _ (c .before .checked .ensures) (λ e. no-refusal (rw e at (c .match .keys2)))
 
 pub raise-low-count-spec : {M : Type 1} → statement M
 raise-low-count-spec =
