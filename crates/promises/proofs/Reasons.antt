@@ -1,12 +1,15 @@
 -- Every step of every rule is explained: its reason is good.
 use Prim.Native.Nat.{ℕ}
+use mathlib.Core.Bool.{Bool, true, false, _||_}
 use mathlib.Core.Path.{_≡_, refl}
+use Rattle.theory.specs.Choice.{choose}
 use Rattle.year.specs.declared.Quantity.the-variants.{Credits, Counts}
 use Rattle.year.specs.declared.Year.{Year}
-use Rattle.rules.specs.Step.{applied}
+use Rattle.rules.specs.Step.{rests, fails, applied, goes, live, dead, overCourses}
 use Rattle.rules.specs.Bounds.{rule1, rule2, rule4, rule5}
-use Rattle.rules.specs.Lists.{verdictAt3, rule3Course}
-use Rattle.rules.specs.Reasons.{Reason, Good, reason14, reason25, reason3, reason10Course, reason10, reason6, reason7, reason8, reason9, reason11}
+use Rattle.rules.specs.Lists.{verdictAt3, rule3Course, overfull, short, full, needed, rule10Course, rule10}
+use Rattle.rules.specs.Facts.{never, theFixed}
+use Rattle.rules.specs.Reasons.{Reason, reason, basisRoom, basisNeed, Good, reason14, reason25, reason3, reason10Course, reason10, reason6, reason7, reason8, reason9, reason11}
 use Rattle.rules.proofs.FactLaws.{held, plan-meets, plan-concludes}
 use Rattle.rules.proofs.FactAtLaws.{pair-right, bound-right, all-found}
 use Rattle.rules.proofs.ReasonsGood.{good14, good25, good3, good6, good7, good8, good9, good10, good10-course, good11}
@@ -37,6 +40,19 @@ by-5 : InTwo 5 rule5 (reason25 Counts)
 unfolding rule5
 by-5 y j = refl
 
+by-10 : (y : Year) (j : ℕ) → let none = applied 10 y (reason10 y j .change) in
+    rule10 y j ≡ choose (goes none) (overCourses (rule10Course (full y j) (needed y j) j) (live y)) none
+unfolding rule10
+by-10 y j = go (overfull y j) (short y j)
+  where
+    go : (a b : Bool)
+        → let none = applied 10 y (choose a (reason fails (basisRoom Counts j)) (choose b (reason fails (basisNeed Counts j)) (reason rests (theFixed never))) .change) in
+        let rest = overCourses (rule10Course (full y j) (needed y j) j) (live y) in
+        choose (a || b) (dead 10 y) rest ≡ choose (goes none) rest none
+    go true b = refl
+    go false true = refl
+    go false false = refl
+
 pub steps-explained : StepsExplained
 steps-explained = record {
   rules-1-4 = λ q s y j a l. explained y (reason14 q s y j) (good14 y j a l q s);
@@ -57,7 +73,8 @@ steps-explained = record {
   by-7 = λ y j. refl;
   by-8 = λ y j. refl;
   by-9 = λ y j. refl;
-  by-10 = rule10-again;
+  by-10 = by-10;
+  by-10-course = rule10-again;
   by-11 = rule11-is;
   found = λ y b. record { pairs = pair-right y b; bounds = bound-right y b; every = all-found y b };
   plans-meet = plan-meets;

@@ -2,15 +2,16 @@
 -- placing of the courses into terms that meets those facts meets the step's conclusion. That plans are kept follows from it.
 use Prim.Native.Nat.{ℕ, _<_}
 use mathlib.Core.Path.{_≡_}
+use Rattle.theory.specs.Choice.{choose}
 use Rattle.year.specs.Plans.{Placing, Plan}
 use Rattle.year.specs.Sound.{Sound}
 use Rattle.year.specs.declared.Quantity.{Quantity}
 use Rattle.year.specs.declared.Quantity.the-variants.{Credits, Counts}
 use Rattle.year.specs.declared.Side.{Side}
 use Rattle.year.specs.declared.Year.{Year}
-use Rattle.rules.specs.Step.{live, applied, raiseLower, overTo, Step}
+use Rattle.rules.specs.Step.{live, applied, goes, raiseLower, overTo, overCourses, Step}
 use Rattle.rules.specs.Bounds.{rule1, rule2, rule4, rule5}
-use Rattle.rules.specs.Lists.{rule3Course, full, needed, rule10Course}
+use Rattle.rules.specs.Lists.{rule3Course, full, needed, rule10Course, rule10}
 use Rattle.rules.specs.Spares.{rule6, rule7, rule8, rule9}
 use Rattle.rules.specs.Packing.{rule11}
 use Rattle.rules.specs.Facts.{Fact, Holds, Meets, Basis, Rests, Concludes, Suffice}
@@ -67,8 +68,10 @@ pub record StepsExplained : Type 0 where
   pub by-7 : InOne 7 rule7 reason7
   pub by-8 : InOne 8 rule8 reason8
   pub by-9 : InOne 9 rule9 reason9
-  -- what rule 10 reads once for its term is what it would read anew for each course
-  pub by-10 : AtTerms (λ y j. (i : ℕ) → i < y .courses
+  -- a no plan of the term, or its courses: what rule 10 reads once for them is what it would read anew for each
+  pub by-10 : (y : Year) (j : ℕ) → let none = applied 10 y (reason10 y j .change) in
+      rule10 y j ≡ choose (goes none) (overCourses (rule10Course (full y j) (needed y j) j) (live y)) none
+  pub by-10-course : AtTerms (λ y j. (i : ℕ) → i < y .courses
       → let rule = rule10Course (full y j) (needed y j) j in
       let z = overTo rule (live y) i .year in
       rule z i ≡ applied 10 z (reason10Course z j i .change))
