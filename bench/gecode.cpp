@@ -1,11 +1,14 @@
-// What a planner would use instead: each list of a file posted to Gecode as a model, and the nanoseconds of one root
-// propagation of it (a fresh space, posting, propagation), the quickest of some, one line a list.
+// What a planner would use instead: each list of a file posted to Gecode as a model, and of one root propagation of it, one
+// line a list: `gecode times FILE` the nanoseconds (a fresh space, posting, propagation), the quickest of some; `gecode left
+// FILE` what it leaves: `no plan`, or each term's low and high credits and low and high count, then each course's list.
 #include <gecode/int.hh>
 #include <gecode/minimodel.hh>
 
 #include <algorithm>
 #include <chrono>
 #include <cstdio>
+#include <memory>
+#include <string>
 #include <vector>
 
 using namespace Gecode;
@@ -90,10 +93,37 @@ static double propagate(const Year &year) {
     return std::chrono::duration<double, std::nano>(end - start).count();
 }
 
+static void print_time(const Year &year) {
+    double best = propagate(year);
+    for (int k = 0; k < 60; k++)
+        best = std::min(best, propagate(year));
+    std::printf("%.0f\n", best);
+}
+
+static void print_left(const Year &year) {
+    const std::unique_ptr<Model> model(new Model(year));
+    if (model->status() == SS_FAILED) {
+        std::printf("no plan\n");
+        return;
+    }
+    for (int j = 0; j < model->load.size(); j++) {
+        const IntVar &load = model->load[j], &number = model->number[j];
+        std::printf("%d %d %d %d ", load.min(), load.max(), number.min(), number.max());
+    }
+    for (int i = 0; i < model->place.size(); i++) {
+        int list = 0;
+        for (IntVarValues term(model->place[i]); term(); ++term)
+            list |= 1 << term.val();
+        std::printf("%d ", list);
+    }
+    std::printf("\n");
+}
+
 int main(int argc, char **argv) {
-    std::FILE *file = argc == 2 ? std::fopen(argv[1], "rb") : nullptr;
+    const std::string wanted = argc == 3 ? argv[1] : "";
+    std::FILE *file = wanted == "times" || wanted == "left" ? std::fopen(argv[2], "rb") : nullptr;
     if (file == nullptr) {
-        std::fprintf(stderr, "usage: gecode FILE\n");
+        std::fprintf(stderr, "usage: gecode times FILE | left FILE\n");
         return 2;
     }
     int high, low;
@@ -101,11 +131,7 @@ int main(int argc, char **argv) {
         std::vector<unsigned char> list(static_cast<size_t>(high * 256 + low));
         if (std::fread(list.data(), 1, list.size(), file) != list.size())
             return 1;
-        const Year year = read_year(list);
-        double best = propagate(year);
-        for (int k = 0; k < 60; k++)
-            best = std::min(best, propagate(year));
-        std::printf("%.0f\n", best);
+        (wanted == "times" ? print_time : print_left)(read_year(list));
     }
     std::fclose(file);
     return 0;

@@ -2,7 +2,7 @@
 //! high byte first.
 
 use std::fs;
-use std::io;
+use std::io::{self, Write};
 use std::path::Path;
 
 use independent::generate::{around_a_plan, corpus_list, edge, Random};
@@ -157,4 +157,10 @@ pub fn read(path: &Path) -> io::Result<Vec<Vec<u8>>> {
         at += 2 + length;
     }
     Ok(lists)
+}
+
+/// Writes one list of a file to standard output.
+pub fn print(path: &Path, number: &str) -> io::Result<()> {
+    let list = number.parse().ok().and_then(|at: usize| read(path).ok()?.into_iter().nth(at));
+    io::stdout().write_all(&list.ok_or(io::ErrorKind::NotFound)?)
 }

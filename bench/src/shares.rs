@@ -3,9 +3,11 @@
 
 use std::fs;
 use std::io;
+use std::iter;
 use std::path::Path;
 
 use crate::corpus;
+use crate::wrong;
 
 /// The kinds of years of the table's columns.
 const COLUMNS: [&str; 8] = ["small", "settled", "noplan", "hidden", "full", "real", "large", "random"];
@@ -22,6 +24,10 @@ struct Part {
 impl Part {
     fn has(&self, name: &str) -> bool {
         self.names.iter().any(|own| name == *own || own.ends_with("::") && name.starts_with(own))
+    }
+
+    fn is_of_library(&self) -> bool {
+        self.names.iter().any(|own| own.contains("::"))
     }
 }
 
@@ -73,10 +79,13 @@ pub fn make(folder: &Path) -> io::Result<()> {
     }
     println!("| what | {} |", COLUMNS.join(" | ").replace("noplan", "no plan"));
     println!("|---|{}", "---|".repeat(COLUMNS.len()));
+    let functions = functions(&fs::read_to_string(folder.join("symbols"))?);
     for (at, part) in parts().0.iter().enumerate() {
         let row: Vec<String> = kinds.iter().map(|sums| per_cent(sums[at], sums.iter().sum())).collect();
         println!("| {} | {} |", part.words, row.join(" | "));
-        if kinds.iter().all(|sums| sums[at] == 0) {
+        // An archive older than the part has none of its functions.
+        let older = part.is_of_library() && !functions.iter().any(|function| function.part == Some(at));
+        if !older && kinds.iter().all(|sums| sums[at] == 0) {
             return Err(wrong(format!("nothing was counted of {}", part.words)));
         }
     }
@@ -97,12 +106,20 @@ fn inlined(folder: &Path, apart: u64) -> io::Result<()> {
     Ok(())
 }
 
-fn wrong(words: String) -> io::Error {
-    io::Error::new(io::ErrorKind::InvalidData, words)
-}
-
 fn per_cent(some: u64, all: u64) -> String {
     format!("{:.0}", some as f64 * 100.0 / all as f64)
+}
+
+/// The columns of what lists spend: the instructions of all parts, and each part.
+pub fn columns() -> Vec<&'static str> {
+    iter::once("instructions").chain(parts().0.iter().map(|part| part.words)).collect()
+}
+
+/// The cells of these columns for some lists together, each part in per cent.
+pub fn spent(lists: &[Counted]) -> Vec<String> {
+    let sums = sums(lists);
+    let all: u64 = sums.iter().sum();
+    iter::once(all.to_string()).chain(sums.iter().map(|&sum| per_cent(sum, all))).collect()
 }
 
 /// The instructions of each part on all lists together.

@@ -5,9 +5,11 @@ use std::io;
 use std::path::Path;
 
 use crate::corpus::{self, Kind};
+use crate::gecode;
 use crate::picture;
 use crate::shares::{self, Counted};
 use crate::timing::{self, Call};
+use crate::worst;
 
 /// The times of some lists, in nanoseconds; Gecode's may be missing.
 #[derive(Default)]
@@ -29,15 +31,17 @@ impl Times {
     }
 }
 
-/// Prints all tables and draws the picture.
-pub fn make(folder: &Path, docs: &Path) -> io::Result<()> {
+/// Prints all tables, draws the picture and writes the table of sums and worst lists, which are of the same times, into a
+/// file.
+pub fn make(folder: &Path, docs: &Path, worst: &Path) -> io::Result<()> {
     println!("| years | library, µs | independent, µs | ratio (worst) | Gecode, µs | ratio (worst) | instructions |");
     println!("|---|---|---|---|---|---|---|");
     let mut kinds = vec![];
     for kind in &corpus::KINDS {
-        kinds.push((kind.name, of_kind(folder, kind)?));
+        kinds.push((kind, of_kind(folder, kind)?));
     }
     past_the_bound(folder, &kinds)?;
+    worst::write(folder, &kinds, worst)?;
     tests_of_soundness(folder);
     imbalances(folder)?;
 
@@ -51,7 +55,7 @@ fn times(folder: &Path, file: &str) -> io::Result<Times> {
     Ok(Times {
         library: timing::library(&lists, Call::Filter),
         independent: timing::independent(&lists, Call::Filter),
-        gecode: timing::gecode(&folder.join("gecode"), &folder.join(file))?,
+        gecode: gecode::times(&folder.join("gecode"), &folder.join(file))?,
     })
 }
 
@@ -63,11 +67,11 @@ fn of_kind(folder: &Path, kind: &Kind) -> io::Result<Times> {
 }
 
 /// The row of the lists of all kinds on which rule 11 goes past its bound, where callgrind told which they are.
-fn past_the_bound(folder: &Path, kinds: &[(&str, Times)]) -> io::Result<()> {
+fn past_the_bound(folder: &Path, kinds: &[(&Kind, Times)]) -> io::Result<()> {
     let mut past = Times::default();
     let mut all = 0;
-    for (name, times) in kinds {
-        match shares::counted(folder, name)? {
+    for (kind, times) in kinds {
+        match shares::counted(folder, kind.name)? {
             Some(lists) => {
                 past.take_past(times, &lists);
                 all += lists.len();
@@ -153,11 +157,11 @@ fn instructions(folder: &Path, name: &str) -> Option<f64> {
     fs::read_to_string(folder.join(format!("{name}.instructions"))).ok()?.trim().parse().ok()
 }
 
-fn or_dash<T: ToString>(figure: Option<T>) -> String {
+pub fn or_dash<T: ToString>(figure: Option<T>) -> String {
     figure.map_or("-".to_string(), |figure| figure.to_string())
 }
 
-fn microseconds(times: &[f64]) -> String {
+pub fn microseconds(times: &[f64]) -> String {
     let middle = median(times) / 1000.0;
     if times.is_empty() {
         "-".to_string()

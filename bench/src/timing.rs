@@ -1,10 +1,6 @@
-//! The time of one call on a list: of the library through its boundary, of the independent program, and of Gecode
-//! through its peer.
+//! The time of one call on a list: of the library through its boundary, and of the independent program.
 
-use std::io;
 use std::mem;
-use std::path::Path;
-use std::process::Command;
 use std::ptr;
 use std::time::{Duration, Instant};
 
@@ -55,16 +51,6 @@ pub fn independent(lists: &[Vec<u8>], call: Call) -> Vec<f64> {
         Call::Filter => lists.iter().map(|list| quickest(|| planner.filter(list, &mut out))).collect(),
         Call::Imbalance => lists.iter().map(|list| quickest(|| planner.imbalance(list))).collect(),
     }
-}
-
-/// A filtering by Gecode's root propagation; no times where its peer does not stand.
-pub fn gecode(peer: &Path, file: &Path) -> io::Result<Vec<f64>> {
-    if !peer.exists() {
-        return Ok(vec![]);
-    }
-    let output = Command::new(peer).arg(file).output()?;
-    let text = String::from_utf8_lossy(&output.stdout).into_owned();
-    Ok(text.lines().filter_map(|line| line.parse().ok()).collect())
 }
 
 /// The time of a call in the quickest batch, in nanoseconds.

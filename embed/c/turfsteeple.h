@@ -13,7 +13,7 @@
  *           9 the buffer is shorter than the list, or than both lists of a joining together
  *           10 no such course, term or kind of narrowing; 11 a bound outside the sizes; 12 the narrowing would
  *           empty a term list, cross a pair of bounds, or place a course in a term that its list lacks
- *           13 no plan: the detail is the rule and the value the round that found it
+ *           13 no plan: the detail is the rule, 1 to 12, and the value the round that found it
  *           14 no imbalance: a course has several terms, or the one placing is no plan
  *
  * The first refusal in rising number is the answer; a joining judges the whole list of terms first, then the hours

@@ -27,7 +27,7 @@ answer-small s = go (readList s .answer) refl
     go Done e = omega arith
     go (Refused f k) e = place-small s f k e
 
--- the detail of a filtering's answer: 1 settled, 2 open, or one of the eleven rules
+-- the detail of a filtering's answer: 1 settled, 2 open, or one of the twelve rules
 pub detail-small : (y : Year) → answerDetail (filterOf y .answer) < 256
 detail-small y = omega (arith, by (filterOf y .answer), answer-few y .0)
   where

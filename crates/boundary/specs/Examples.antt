@@ -67,7 +67,7 @@ filter-open : (filterCode bytesE 80 ≡ 2 * 256 + 2 * 65536)
     × (filterOut bytesE (buffer 81)
     ≡ padded (84 ∷ 0 ∷ 0 ∷ 3 ∷ 0 ∷ 4 ∷ 0 ∷ 1 ∷ 0 ∷ 1 ∷ [])
     ++ padded (84 ∷ 1 ∷ 0 ∷ 5 ∷ 0 ∷ 6 ∷ 0 ∷ 2 ∷ 0 ∷ 2 ∷ [])
-    ++ drop 32 bytesE
+    ++ drop 32 (withByte 69 2)
     ++ buffer 1)
 unfolding computing
 filter-open = (refl, refl)

@@ -93,11 +93,11 @@ filter-narrower y s =
     after : (z : Year) → Narrower y z → Narrower y (round z .year)
     after z a = narrower-then y z (round z .year) a (narrows-round z (a .sound) .year)
 
--- the rule that its answer names is one of the eleven, or none; its rounds are no more than it may run
+-- the rule that its answer names is one of the twelve, or none; its rounds are no more than it may run
 abbrev Few : Answer → Type 0
-Few a = (filterRule a ≤ 11) × (filterRounds a ≤ 1025985)
+Few a = (filterRule a ≤ 12) × (filterRounds a ≤ 1025985)
 
-pub answer-few : (y : Year) → (filterRule (filterOf y .answer) ≤ 11) × (filterRounds (filterOf y .answer) ≤ 1025985)
+pub answer-few : (y : Year) → (filterRule (filterOf y .answer) ≤ 12) × (filterRounds (filterOf y .answer) ≤ 1025985)
 unfolding filterOf
 answer-few y = go (isSound y)
   where

@@ -6,10 +6,9 @@ use mathlib.Core.List.{[], _∷_}
 use mathlib.Core.Path.{_≡_, refl}
 use lib.ListN.{replicate}
 use Rattle.year.specs.Year.{termOf, courseOf}
-use Rattle.year.specs.Doors.{withTerm}
 use Rattle.year.specs.Examples.{yearOf, yearE, offE}
 use Rattle.year.specs.Sums.{sumsOf, noSums}
-use Rattle.rules.specs.Examples.{atASize, atATermsSize, atHalf, aboveHalf, atItsOwnSize}
+use Rattle.rules.specs.Examples.{atATermsSize, aboveHalf, atItsOwnSize}
 use Rattle.year.specs.declared.Year.{Year}
 use Rattle.filter.specs.Filter.{filtered, filterOf}
 use Rattle.filter.specs.declared.Answer.the-variants.{Settled, Open, NoPlan, Unsound}
@@ -30,7 +29,7 @@ StaysOpen y n z = filterOf y ≡ filtered (Open n) z
 
 -- ---- the paper's table
 
-row-1 : StaysOpen yearE 2 (withTerm (withTerm yearE 0 (termOf 3 4 1 1)) 1 (termOf 5 6 2 2))
+row-1 : StaysOpen yearE 2 (yearOf (termOf 3 4 1 1 ∷ termOf 5 6 2 2 ∷ []) (courseOf 4 3 ∷ courseOf 3 3 ∷ courseOf 2 2 ∷ []))
 unfolding computing
 row-1 = refl
 
@@ -117,30 +116,70 @@ rule-10-fixes :
 unfolding computing
 rule-10-fixes = refl
 
--- rule 11 finds no plan by a term whose p exceeds high credits
+-- rule 12 finds no plan by a term whose p exceeds high credits, and by firing on all open courses
+rule-12-over-high :
+    FindsNone (yearOf (termOf 0 2 0 2 ∷ termOf 0 3 0 2 ∷ termOf 0 1 0 0 ∷ []) (courseOf 1 5 ∷ courseOf 2 3 ∷ courseOf 2 6 ∷ [])) 12 1
+unfolding computing
+rule-12-over-high = refl
+
+rule-12-fires : FindsNone atItsOwnSize 12 1
+unfolding computing
+rule-12-fires = refl
+
+-- rule 12 strikes by firing on the rest, and the list differs without it
+rule-12-strikes :
+    StaysOpen (yearOf (termOf 0 2 0 1 ∷ termOf 0 3 0 2 ∷ []) (courseOf 1 3 ∷ courseOf 2 3 ∷ courseOf 2 3 ∷ [])) 2
+    (yearOf (termOf 2 2 1 1 ∷ termOf 3 3 2 2 ∷ []) (courseOf 1 2 ∷ courseOf 2 3 ∷ courseOf 2 3 ∷ []))
+unfolding computing
+rule-12-strikes = refl
+
+-- rule 12 fixes, with p read anew for the courses behind; with p read once for the term, SETTLED 2
+rule-12-fixes :
+    StaysOpen (yearOf (termOf 0 3 0 2 ∷ termOf 0 2 0 1 ∷ []) (courseOf 1 3 ∷ courseOf 2 3 ∷ courseOf 2 3 ∷ [])) 2
+    (yearOf (termOf 3 3 2 2 ∷ termOf 2 2 1 1 ∷ []) (courseOf 1 1 ∷ courseOf 2 3 ∷ courseOf 2 3 ∷ []))
+unfolding computing
+rule-12-fixes = refl
+
+-- rule 11 finds no plan by a term whose p exceeds high credits: rule 12 has put a course there since it came to the term
 rule-11-over-high :
-    FindsNone (yearOf (termOf 0 2 0 2 ∷ termOf 0 3 0 2 ∷ termOf 0 1 0 0 ∷ []) (courseOf 1 5 ∷ courseOf 2 3 ∷ courseOf 2 6 ∷ [])) 11 1
+    FindsNone
+    (yearOf (termOf 0 2 0 0 ∷ termOf 0 6 0 2 ∷ termOf 0 5 0 2 ∷ [])
+    (courseOf 3 6 ∷ courseOf 4 6 ∷ courseOf 4 7 ∷ []))
+    11 1
 unfolding computing
 rule-11-over-high = refl
 
--- rule 11 finds no plan by its quotient
+-- rule 11 finds no plan by its quotient, where only c/2 exceeds, and where a size counts that is t itself
 rule-11-quotient :
-    FindsNone (yearOf (termOf 0 2 0 2 ∷ termOf 0 1 0 0 ∷ termOf 0 3 0 2 ∷ []) (courseOf 1 3 ∷ courseOf 2 5 ∷ courseOf 2 5 ∷ [])) 11 1
+    FindsNone
+    (yearOf (termOf 0 1 0 0 ∷ termOf 0 3 0 2 ∷ termOf 0 3 0 2 ∷ [])
+    (courseOf 2 6 ∷ courseOf 2 6 ∷ courseOf 2 7 ∷ []))
+    11 1
 unfolding computing
 rule-11-quotient = refl
 
--- rule 11 finds no plan where a size exceeds, where only a term's size does, and where only c/2 does
-rule-11-at-a-size : FindsNone atASize 11 1
+-- without c/2, OPEN 2
+rule-11-at-half :
+    FindsNone
+    (yearOf (termOf 0 1 0 1 ∷ termOf 0 1 0 1 ∷ termOf 0 9 0 2 ∷ termOf 0 9 0 2 ∷ [])
+    (courseOf 1 15 ∷ courseOf 5 12 ∷ courseOf 5 12 ∷ courseOf 6 12 ∷ []))
+    11 1
 unfolding computing
-rule-11-at-a-size = refl
+rule-11-at-half = refl
 
+-- were a size at t to count 0, OPEN 2
+rule-11-at-its-own-size :
+    FindsNone
+    (yearOf (termOf 0 1 0 1 ∷ termOf 0 1 0 1 ∷ termOf 0 4 0 2 ∷ termOf 0 4 0 2 ∷ [])
+    (courseOf 1 15 ∷ courseOf 2 12 ∷ courseOf 3 12 ∷ courseOf 3 12 ∷ []))
+    11 1
+unfolding computing
+rule-11-at-its-own-size = refl
+
+-- where only a term's size exceeds
 rule-11-at-a-terms-size : FindsNone atATermsSize 11 1
 unfolding computing
 rule-11-at-a-terms-size = refl
-
-rule-11-at-half : FindsNone atHalf 11 1
-unfolding computing
-rule-11-at-half = refl
 
 -- and finds none where only a size above c/2 would exceed
 rule-11-above-half :
@@ -182,8 +221,12 @@ trap-4 :
 unfolding computing
 trap-4 = refl
 
--- trap 5: the quotient of rule 11 rounded down
-trap-5 : FindsNone atItsOwnSize 11 1
+-- trap 5: the quotient of rule 11 rounded down; with it, OPEN 2
+trap-5 :
+    FindsNone
+    (yearOf (termOf 0 1 0 1 ∷ termOf 0 1 0 1 ∷ termOf 0 4 0 2 ∷ termOf 0 4 0 2 ∷ [])
+    (courseOf 2 12 ∷ courseOf 3 12 ∷ courseOf 1 15 ∷ courseOf 3 12 ∷ []))
+    11 1
 unfolding computing
 trap-5 = refl
 
@@ -204,11 +247,23 @@ in-order-9-10 : FindsNone (yearOf (termOf 1 2 0 1 ∷ termOf 1 2 0 1 ∷ termOf 
 unfolding computing
 in-order-9-10 = refl
 
--- rule 10 before rule 11; exchanged, NOPLAN 1 2
-in-order-10-11 :
-    FindsNone (yearOf (termOf 0 2 0 2 ∷ termOf 0 1 0 0 ∷ termOf 0 2 0 2 ∷ []) (courseOf 1 3 ∷ courseOf 1 6 ∷ courseOf 2 5 ∷ [])) 11 1
+-- rule 10 before rule 12; exchanged, NOPLAN 10 1
+in-order-10-12 :
+    FindsNone
+    (yearOf (termOf 0 2 0 2 ∷ termOf 0 1 0 0 ∷ termOf 0 2 0 2 ∷ [])
+    (courseOf 1 3 ∷ courseOf 1 6 ∷ courseOf 2 5 ∷ []))
+    12 1
 unfolding computing
-in-order-10-11 = refl
+in-order-10-12 = refl
+
+-- rule 12 before rule 11; exchanged, NOPLAN 11 1
+in-order-12-11 :
+    FindsNone
+    (yearOf (termOf 0 2 0 2 ∷ termOf 0 3 0 2 ∷ termOf 0 1 0 0 ∷ [])
+    (courseOf 1 5 ∷ courseOf 2 3 ∷ courseOf 2 3 ∷ []))
+    12 1
+unfolding computing
+in-order-12-11 = refl
 
 -- ---- rules that alter the year silently: what a rule altered has to be marked, or the round would be taken for the last.
 -- Rule 10's own mark is never the only one of its round: its courses are struck or fixed by rule 3 unless a bound moved since
@@ -271,6 +326,13 @@ marks-9 :
     (yearOf (termOf 0 1 0 1 ∷ termOf 0 2 0 2 ∷ termOf 0 2 0 2 ∷ []) (courseOf 1 5 ∷ courseOf 1 3 ∷ courseOf 1 6 ∷ []))
 unfolding computing
 marks-9 = refl
+
+-- rule 12 alone; silent, OPEN 1
+marks-12 :
+    StaysOpen (yearOf (termOf 2 2 1 1 ∷ termOf 3 3 2 2 ∷ []) (courseOf 1 3 ∷ courseOf 2 3 ∷ courseOf 2 3 ∷ [])) 2
+    (yearOf (termOf 2 2 1 1 ∷ termOf 3 3 2 2 ∷ []) (courseOf 1 2 ∷ courseOf 2 3 ∷ courseOf 2 3 ∷ []))
+unfolding computing
+marks-12 = refl
 
 -- only rules 6 to 10 alter in round 1, and round 2 finds no plan; all five silent, SETTLED 1
 marks-6-to-10 : FindsNone (yearOf (termOf 3 4 0 1 ∷ termOf 0 4 1 1 ∷ termOf 1 4 0 1 ∷ []) (courseOf 4 7 ∷ courseOf 4 5 ∷ [])) 1 2

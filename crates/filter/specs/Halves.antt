@@ -1,4 +1,4 @@
--- Inner: a round in two halves, rules 1 to 5, which read no order of the courses, and rules 6 to 11.
+-- Inner: a round in two halves, rules 1 to 5, which read no order of the courses, and the others.
 use Rattle.year.specs.declared.Year.{Year}
 use Rattle.rules.specs.Step.{live, Step}
 use Rattle.rules.specs.Round.{inRow, passesOf, passesFrom}

@@ -51,7 +51,7 @@ fn first_half(s: State, weight: &[u32], all: Credits) -> State
     bounds::rules_4_5(r3, weight)
 }
 
-// Rules 6 to 11 in order, up to one that finds no plan.
+// Rules 6 to 10, then 12, then 11, up to one that finds no plan.
 fn second_half(s: State, weight: &[u32], o: Orders) -> State
     requires { ⌜ Sound (yearIn (now weight) s) ⌝ }
     requires { ⌜ o ≡ ordersOf (yearIn (now weight) s) ⌝ }
@@ -61,7 +61,8 @@ fn second_half(s: State, weight: &[u32], o: Orders) -> State
     let rising = o.up;
     let r9 = walks::rules_6_to_9(s, weight, &falling, &rising);
     let r10 = lists::rule_10(r9, weight);
-    packing::rule_11(r10, weight, &rising)
+    let r12 = neighbours::rule_12(r10, weight, &rising);
+    packing::rule_11(r12, weight, &rising)
 }
 
 // The orders of the first n courses, computed in the first round and kept from then on. A year that the first half of

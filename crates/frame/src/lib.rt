@@ -1,4 +1,7 @@
-// What the code of every rule stands on: a year on its way through a round, its bounds by themselves, and the outcome at a term.
+// What the code of every rule stands on: a year on its way through a round, its bounds by themselves, the outcome at a term, and
+// a course under a verdict.
+pub mod verdicts;
+
 use year::Sums;
 use year::Term;
 use year::Tight;

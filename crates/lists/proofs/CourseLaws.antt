@@ -1,24 +1,18 @@
 -- The courses of a term, one after the other: what the steps leave alone, and what the code makes of a course.
-use Prim.Native.Nat.{ℕ, zero, suc, _+_, _-_, _^_, _≤_, _<_}
-use mathlib.Core.Bool.{Bool, true, false, not, _||_, or-true, or-false}
+use Prim.Native.Nat.{ℕ, zero, suc, _+_, _≤_, _<_}
+use mathlib.Core.Bool.{Bool, true, false, _||_, or-assoc}
 use mathlib.Core.List.{List}
 use mathlib.Core.Path.{_≡_, refl, sym, ap, _∙_, subst}
 use native.Mathlib.Omega.{arith}
-use lib.ListN.{set}
 use Rattle.theory.specs.Fold.{fold}
-use Rattle.theory.specs.Tab.{tab}
-use Rattle.theory.proofs.BitLaws.{has-le}
-use Rattle.theory.proofs.TestLaws.{and-true}
-use Rattle.year.specs.Year.{courseOf, courseIn, termAt, courseAt, weight, list, lists, isFixed, isOpen}
+use Rattle.year.specs.Year.{courseOf, courseIn, termAt, courseAt, weight, isOpen}
 use Rattle.year.specs.Doors.{withList}
 use Rattle.year.specs.Sums.{fixedCredits, possibleCredits, sumsIn, sumsAt}
-use Rattle.year.specs.SumsOf.{partOf, Within, changedAt}
 use Rattle.year.specs.Sound.{Sound}
 use Rattle.year.specs.declared.Course.{Course}
 use Rattle.year.specs.declared.Sums.{Sums}
 use Rattle.year.specs.declared.Term.{Term}
 use Rattle.year.specs.declared.Year.{Year}
-use Rattle.year.proofs.ChangeLaws.{change-asks, change-gives}
 use Rattle.year.proofs.DoorLaws.{list-other}
 use Rattle.year.proofs.SumLaws.{possible-le, all-credits-le, sums-read}
 use Rattle.rules.specs.Step.{goes, then, step, live, judged, next, overTo, Step, joined}
@@ -30,7 +24,8 @@ use Rattle.rules.proofs.Narrows.{Narrows, narrows-rest, narrows-over, Lawful}
 use Rattle.rules.proofs.Steps.{judged-narrows}
 use Rattle.frame.specs.State.{held, yearIn, stepIn}
 use Rattle.frame.specs.declared.State.{State}
-use Rattle.lists.specs.TermVerdict.{courseVerdict, listAfter, courseJudged}
+use Rattle.frame.proofs.VerdictLaws.{UnderVerdict, under-verdict}
+use Rattle.lists.specs.TermVerdict.{courseVerdict, courseJudged}
 use Rattle.lists.specs.declared.TermVerdict.{TermVerdict}
 use Rattle.lists.specs.declared.TermVerdict.the-variants.{Nothing, ByCredits, ByCounts, NoPlan}
 
@@ -46,12 +41,6 @@ verdictAt w j y i = courseVerdict w (courseAt y i) (termAt y j) (fixedCredits y 
 judged-turn : (w : TermVerdict) (j : ℕ) (s : Step) (i : ℕ) (v : Verdict) → s .rule ≡ 0 → verdictAt w j (s .year) i ≡ v → next (courseJudged w j) s i ≡ joined s (judged (s .year) i j v)
 unfolding courseJudged
 judged-turn w j s i v r e = rw (r, e)
-
--- a verdict other than to stay gives the course another list
-judged-alters : (y : Year) (i j : ℕ) (v : Verdict) → (v ≡ Stays → ⊥) → judged y i j v ≡ step (withList y i (listAfter v (list y i) j)) true 0
-judged-alters y i j Stays d = absurd (d refl)
-judged-alters y i j Struck d = refl
-judged-alters y i j Fixed d = refl
 
 -- only an open course has a verdict
 verdict-stays : (w : TermVerdict) (c : Course) (t : Term) (p P j : ℕ) → isOpen c j ≡ false → courseVerdict w c t p P j ≡ Stays
@@ -115,11 +104,7 @@ verdictOf w ws s j z c = courseVerdict w c (termAt (yearIn ws s) j) (sumsIn (z .
 -- z is the state when course i, which is c, is come to
 pub record Turn (w : TermVerdict) (ws : List ℕ) (s : State) (j i : ℕ) (z : State) (c : Course) : Type 0 where
   pub p-small : sumsIn (z .sums) j .fixed .0 + c .weight .0 ≤ 65000
-  pub is-listed : verdictOf w ws s j z c ≡ Struck → 2 ^ j ≤ c .list
-  pub stays : verdictOf w ws s j z c ≡ Stays → z ≡ stateTo w ws s j (i + 1)
-  pub asks : (c .weight .0 ≤ 1000) × ((k : ℕ) → k < 16 → Within (sumsIn (z .sums) k) (partOf c k))
-  pub alters : (verdictOf w ws s j z c ≡ Stays → ⊥) → (x : ℕ) → x ≡ listAfter (verdictOf w ws s j z c) (c .list) j → (u : List Sums) → u ≡ tab 16 (changedAt (z .sums) c x)
-      → record { terms = z .terms; courses = z .courses; term = z .term; list = set (z .list) i x; sums = u; altered = true; rule = z .rule } ≡ stateTo w ws s j (i + 1)
+  pub under : UnderVerdict (verdictOf w ws s j z c) i j c z (stateTo w ws s j (i + 1))
 
 module _ (w : TermVerdict) (ws : List ℕ) (s : State) (j i : ℕ) (z : State) (c : Course) (sound : Sound (yearIn ws s)) (alive : s .rule ≡ 0) (j-in : j < s .terms) (i-in : i < s .courses)
     (inv : z ≡ stateTo w ws s j i) (is : c ≡ courseIn ws (s .list) i) where
@@ -148,11 +133,8 @@ module _ (w : TermVerdict) (ws : List ℕ) (s : State) (j i : ℕ) (z : State) (
   course : c ≡ courseAt (t .year) i
   course = is ∙ sym (o .course-same i (omega arith))
 
-  sums-is : z .sums ≡ t .year .sums
-  sums-is = ap (λ (q : State). q .sums) inv
-
   sums-now : sumsIn (z .sums) j ≡ sumsAt (t .year) j
-  sums-now = ap (λ u. sumsIn u j) sums-is ∙ sums-read (t .year) (t .year .sums) (sound-now .sums-kept) j (omega (arith, sound))
+  sums-now = ap (λ (q : State). sumsIn (q .sums) j) inv ∙ sums-read (t .year) (t .year .sums) (sound-now .sums-kept) j (omega (arith, sound))
 
   fixed-is : sumsIn (z .sums) j .fixed .0 ≡ fixedCredits (t .year) j
   unfolding sumsAt
@@ -166,43 +148,18 @@ module _ (w : TermVerdict) (ws : List ℕ) (s : State) (j i : ℕ) (z : State) (
   same : v ≡ verdictAt w j (t .year) i
   same = rw (fixed-is, possible-is, course, o .term-same)
 
-  after : (u : Verdict) → v ≡ u → held (joined (stepIn ws s) (joined t (judged (t .year) i j u))) ≡ stateTo w ws s j (i + 1)
-  after u e = ap (λ x. held (joined (stepIn ws s) x)) (sym (fold-more goes (then (courseJudged w j)) (live y) i ∙ judged-turn w j t i u (o .goes-on) (sym same ∙ e)))
-
   is-open : (v ≡ Stays → ⊥) → isOpen (courseAt (t .year) i) j ≡ true
   is-open d = rw course at (verdict-open w c (termAt y j) (sumsIn (z .sums) j .fixed .0) (sumsIn (z .sums) j .possible .0) j d)
 
-  struck-lists : v ≡ Struck → lists (courseAt (t .year) i) j ≡ true
-  struck-lists e =
-      let listing : isOpen (courseAt (t .year) i) j ≡ true = is-open (λ q. let x : _≡_ {A = ℕ} 0 1 = cc in omega arith) in
-      and-true (lists (courseAt (t .year) i) j) (not (isFixed (courseAt (t .year) i) j)) listing .0
+  after : held (joined (joined (stepIn ws s) t) (judged (t .year) i j v)) ≡ stateTo w ws s j (i + 1)
+  after =
+      let u = judged (t .year) i j v in
+      let m = or-assoc (s .altered) (t .altered) (u .altered) in
+      (λ n. held (step (u .year) (m n) (u .rule)))
+      ∙ ap (λ x. held (joined (stepIn ws s) x)) (sym (fold-more goes (then (courseJudged w j)) (live y) i ∙ judged-turn w j t i v (o .goes-on) (sym same)))
 
   pub turn-at : Turn w ws s j i z c
   turn-at = record {
     p-small = rw (course, fixed-is) (small (t .year) i j sound-now inside);
-    is-listed = λ e. rw course (has-le (list (t .year) i) j (struck-lists e));
-    stays = λ e.
-        let m = ap (λ b. s .altered || b) (sym (or-false (t .altered))) in
-        let r = o .goes-on in
-        inv
-        ∙ (λ n. record { terms = t .year .terms; courses = t .year .courses; term = t .year .term; list = t .year .list; sums = t .year .sums; altered = m n; rule = r n })
-        ∙ after Stays e;
-    asks = subst (λ u. (c .weight .0 ≤ 1000) × ((k : ℕ) → k < 16 → Within (sumsIn u k) (partOf c k))) (sym sums-is) (change-asks (t .year) sound-now i inside c course);
-    alters = λ d x q u f.
-        let new = listAfter v (list (t .year) i) j in
-        let at : x ≡ new = q ∙ ap (λ (a : Course). listAfter v (a .list) j) course in
-        let sums = f ∙ ap (λ b. tab 16 (changedAt b c x)) sums-is ∙ ap (λ b. tab 16 (changedAt (t .year .sums) c b)) at ∙ change-gives (t .year) sound-now i inside c course new in
-        let m = sym (ap (λ b. s .altered || b) (or-true (t .altered)) ∙ or-true (s .altered)) in
-        let r = ap (λ (a : State). a .rule) inv ∙ o .goes-on in
-        (λ n. record {
-          terms = inv n .terms;
-          courses = inv n .courses;
-          term = inv n .term;
-          list = set (inv n .list) i (at n);
-          sums = sums n;
-          altered = m n;
-          rule = r n;
-        })
-        ∙ ap (λ a. held (joined (stepIn ws s) (joined t a))) (sym (judged-alters (t .year) i j v d))
-        ∙ after v refl;
+    under = subst (UnderVerdict v i j c z) after (under-verdict (joined (stepIn ws s) t) sound-now (o .goes-on) i j inside c course v is-open z inv);
   }

@@ -1,15 +1,14 @@
 -- Rules on lists over the terms of a year: what stays as it was, and a turn of the code's loop.
 use Prim.Native.Nat.{ℕ, _+_, _≤_, _<_}
-use mathlib.Core.Bool.{Bool, true, false, _&&_, _||_, or-false}
+use mathlib.Core.Bool.{_||_, or-false}
 use mathlib.Core.List.{List}
 use mathlib.Core.Path.{_≡_, refl, sym, ap, ap₂, _∙_}
 use native.Mathlib.Nat.{le-refl}
 use native.Mathlib.Omega.{arith}
-use lib.Dec.{eqb, ltb}
+use lib.Dec.{eqb}
 use lib.ListN.{getD}
-use borrow.Author.Tests.{eqb-true, ne-eqb}
 use Rattle.theory.specs.Choice.{choose}
-use Rattle.theory.proofs.FoldLaws.{fold-more, fold-keeps, fold-finish, fold-none}
+use Rattle.theory.proofs.FoldLaws.{fold-keeps}
 use Rattle.theory.specs.Tab.{tab}
 use Rattle.theory.proofs.TabLaws.{getD-tab}
 use Rattle.year.specs.Year.{zeroTerm, termAt, lowCredits}
@@ -18,15 +17,15 @@ use Rattle.year.specs.Sound.{Sound}
 use Rattle.year.specs.declared.Credits.{Credits}
 use Rattle.year.specs.declared.Sums.{Sums}
 use Rattle.year.specs.declared.Year.{Year}
-use Rattle.year.proofs.SumLaws.{sums-read, possible-le, all-credits-le, counts-le}
-use Rattle.rules.specs.Step.{goes, then, step, live, next, overTo, overTerms, Step}
+use Rattle.year.proofs.SumLaws.{possible-le, all-credits-le, counts-le}
+use Rattle.rules.specs.Step.{goes, then, step, live, next, overTo, Step}
 use Rattle.frame.specs.State.{held, yearIn, stepIn}
 use Rattle.rules.specs.Lists.{rule3, rule10}
 use Rattle.frame.specs.declared.State.{State}
-use Rattle.rules.proofs.Narrows.{Narrows, narrows-rest, narrows-over}
-use Rattle.rules.proofs.Passes.{over-joined}
+use Rattle.rules.proofs.Narrows.{Narrows}
+use Rattle.rules.proofs.KeptOver.{AtTerms}
 use Rattle.rules.proofs.ListsKept.{rule3-held, rule10-held}
-use Rattle.frame.proofs.StateLaws.{year-held, step-held, sound-held}
+use Rattle.frame.proofs.TermsAt.{went-on, narrows-at, year-at, sound-at, terms-at, sums-at, same}
 use Rattle.lists.specs.TermVerdict.{termVerdict3, termVerdict10, termJudged}
 use Rattle.lists.specs.Heaviest.{heaviestAt}
 use Rattle.lists.specs.declared.TermVerdict.{TermVerdict}
@@ -39,7 +38,7 @@ use Rattle.lists.proofs.TermLaws.{step-is, nothing-is, credits-is, rule
 
 -- it leaves a sound year that is no wider, and the terms as they are
 record OnLists (rule : Year → ℕ → Step) : Type 0 where
-  pub narrows : (y : Year) (j : ℕ) → Sound y → j < y .terms → Narrows y (rule y j)
+  pub narrows : AtTerms Narrows rule
   pub terms : (y : Year) (j : ℕ) → rule y j .year .term ≡ y .term
 
 terms-judged : (w : TermVerdict) (y : Year) (j : ℕ) → termJudged w y j .year .term ≡ y .term
@@ -65,18 +64,6 @@ lists-10 = record {
 terms-over : (f : Year → ℕ → Step) → OnLists f → (y : Year) (n : ℕ) → overTo f (live y) n .year .term ≡ y .term
 terms-over f l y n = fold-keeps goes (then f) (live y) (λ z. z .year .term ≡ y .term) n (λ z k h e q. l .terms (z .year) k ∙ q) refl
 
--- where no plan was found before the first term, all of them are left alone
-pub no-plan-stays : (rule : Year → ℕ → Step) (s : Step) → (s .rule ≡ 0 → ⊥) → overTerms rule s ≡ s
-no-plan-stays rule s d = fold-none goes (then rule) s (ne-eqb (s .rule) 0 d) (s .year .terms)
-
--- where none is found at term j, none was before the first
-went-on : (rule : Year → ℕ → Step) (s : Step) (j : ℕ) → overTo rule s j .rule ≡ 0 → s .rule ≡ 0
-went-on rule s j e = go (eqb (s .rule) 0) refl
-  where
-    go : (b : Bool) → eqb (s .rule) 0 ≡ b → s .rule ≡ 0
-    go true q = eqb-true (s .rule) 0 q
-    go false q = ap (λ (x : Step). x .rule) (sym (fold-none goes (then rule) s q j)) ∙ e
-
 -- ---- a turn of the code's loop: z is the state at term j, from s on
 
 -- w is what the rule says of the term
@@ -87,50 +74,17 @@ pub record TermTurn (rule : Year → ℕ → Step) (ws : List ℕ) (s z : State)
 
 module _ (rule : Year → ℕ → Step) (l : OnLists rule) (ws : List ℕ) (s : State) (sound : Sound (yearIn ws s)) (alive : s .rule ≡ 0)
     (j : ℕ) (h : j < s .terms) (z : State) (inv : z ≡ held (overTo rule (stepIn ws s) j)) where
-  abbrev p : Step
-  p = overTo rule (stepIn ws s) j
-
-  abbrev t : Step
-  t = overTo rule (live (yearIn ws s)) j
-
-  narrows-at : Narrows (yearIn ws s) t
-  narrows-at = narrows-over rule (s .terms) (yearIn ws s) (live (yearIn ws s)) (λ y k a b c m. l .narrows y k a (omega arith)) (narrows-rest (yearIn ws s) 0 sound) j (omega arith)
-
-  year-same : p .year ≡ t .year
-  year-same = ap (λ (x : Step). x .year) (over-joined rule (stepIn ws s) alive j)
-
-  sound-same : Sound (p .year)
-  sound-same = rw year-same (narrows-at .year .sound)
-
-  weights-same : ws ≡ p .year .weight
-  weights-same = rw year-same (sym (narrows-at .year .weight-same))
-
-  step-at : stepIn ws z ≡ p
-  step-at = step-held ws p weights-same z inv
-
-  year-at : yearIn ws z ≡ t .year
-  year-at = year-held ws p weights-same z inv ∙ year-same
-
-  sound-at : Sound (yearIn ws z)
-  sound-at = sound-held ws p weights-same z inv sound-same
-
   term-at : termAt (yearIn ws s) j ≡ termAt (yearIn ws z) j
-  term-at = sym (ap (λ (y : Year). termAt y j) year-at ∙ ap (λ ts. getD ts j zeroTerm) (terms-over rule l (yearIn ws s) j))
-
-  sums-at : getD (z .sums) j noSums ≡ sumsAt (yearIn ws z) j
-  sums-at = sums-read (yearIn ws z) (z .sums) (sound-at .sums-kept) j (omega (arith, sound))
-
-  same : held (next rule (stepIn ws z) j) ≡ held (overTo rule (stepIn ws s) (j + 1))
-  same = ap (λ x. held (next rule x j)) step-at ∙ ap held (sym (fold-more goes (then rule) (stepIn ws s) j))
+  term-at = sym (ap (λ (y : Year). termAt y j) (year-at rule (l .narrows) ws s sound alive j h z inv) ∙ ap (λ ts. getD ts j zeroTerm) (terms-over rule l (yearIn ws s) j))
 
   turn-at : z .rule ≡ 0 → (w : TermVerdict) → rule (yearIn ws z) j ≡ termJudged w (yearIn ws z) j → TermTurn rule ws s z j w
   turn-at going w is = record {
-    ready = (omega (arith, ap (λ (y : Year). y .terms) year-at, narrows-at .year .terms-same), (sound-at, going));
+    ready = (terms-at rule (l .narrows) ws s sound alive j h z inv, (sound-at rule (l .narrows) ws s sound alive j h z inv, going));
     says-nothing = λ q.
         let still : rule (yearIn ws z) j ≡ live (yearIn ws z) = is ∙ ap (λ v. termJudged v (yearIn ws z) j) q ∙ nothing-is (yearIn ws z) j in
         let quiet : stepIn ws z ≡ next rule (stepIn ws z) j = rw (going, still) (step-is refl (sym (or-false (z .altered))) refl) in
-        ap held quiet ∙ same;
-    is-judged = ap (λ (x : Step). held (choose (eqb (z .rule) 0) (step (x .year) (z .altered || x .altered) (x .rule)) (stepIn ws z))) (sym is) ∙ same;
+        ap held quiet ∙ same rule (l .narrows) ws s sound alive j h z inv;
+    is-judged = ap (λ (x : Step). held (choose (eqb (z .rule) 0) (step (x .year) (z .altered || x .altered) (x .rule)) (stepIn ws z))) (sym is) ∙ same rule (l .narrows) ws s sound alive j h z inv;
   }
 
 -- ---- rule 3
@@ -151,20 +105,20 @@ module _ (ws : List ℕ) (s : State) (sound : Sound (yearIn ws s)) (alive : s .r
   unfolding sumsAt fixedCredits
   fits-3 =
       let y = yearIn ws z in
-      let a = sound-at rule3 lists-3 ws s sound alive j h z inv in
-      let p : getD (z .sums) j noSums .fixed .0 ≡ fixedCredits y j = ap (λ (u : Sums). u .fixed .0) (sums-at rule3 lists-3 ws s sound alive j h z inv) in
+      let a = sound-at rule3 (lists-3 .narrows) ws s sound alive j h z inv in
+      let p : getD (z .sums) j noSums .fixed .0 ≡ fixedCredits y j = ap (λ (u : Sums). u .fixed .0) (sums-at rule3 (lists-3 .narrows) ws s sound alive j h z inv) in
       let heaviest-small = heaviest-most (yearIn ws s) (s .courses) j sound (le-refl (s .courses)) in
       (omega (arith, heaviest-at, possible-le y j, all-credits-le y a, a .courses-most), omega (arith, heaviest-at, sound .term-sound j h))
 
   pub turn-3 : (w : TermVerdict) → w ≡ termVerdict3 (termAt (yearIn ws s) j) (getD (z .sums) j noSums) (getD heaviest j (record { 0 = 0 }) .0) → TermTurn rule3 ws s z j w
   turn-3 w q =
-      let v = narrows-at rule3 lists-3 ws s sound alive j h z inv in
-      let y = year-at rule3 lists-3 ws s sound alive j h z inv in
+      let v = narrows-at rule3 (lists-3 .narrows) ws s sound alive j h z inv in
+      let y = year-at rule3 (lists-3 .narrows) ws s sound alive j h z inv in
       let bound : (i : ℕ) → i < z .courses → openWeight ws (z .list) j i ≤ getD heaviest j (record { 0 = 0 }) .0 = λ i m.
       let n : i < s .courses = omega (arith, v .year .courses-same, ap (λ (x : Year). x .courses) y) in
       omega (arith, ap (λ (x : Year). openWeight (x .weight) (x .list) j i) y, heaviest-at, open-less (yearIn ws s) _ v i j n, heaviest-bounds ws (s .list) (s .courses) j i n) in
       let read : w ≡ termVerdict3 (termAt (yearIn ws z) j) (sumsAt (yearIn ws z) j) (getD heaviest j (record { 0 = 0 }) .0) =
-      q ∙ ap₂ (λ t u. termVerdict3 t u (getD heaviest j (record { 0 = 0 }) .0)) (term-at rule3 lists-3 ws s sound alive j h z inv) (sums-at rule3 lists-3 ws s sound alive j h z inv) in
+      q ∙ ap₂ (λ t u. termVerdict3 t u (getD heaviest j (record { 0 = 0 }) .0)) (term-at rule3 lists-3 ws s sound alive j h z inv) (sums-at rule3 (lists-3 .narrows) ws s sound alive j h z inv) in
       turn-at rule3 lists-3 ws s sound alive j h z inv (ap (λ (x : State). x .rule) inv ∙ alive-3 (stepIn ws s) alive j) w
       (rule-3-is (yearIn ws z) j (getD heaviest j (record { 0 = 0 }) .0) bound ∙ ap (λ x. termJudged x (yearIn ws z) j) (sym read))
 
@@ -178,8 +132,8 @@ module _ (ws : List ℕ) (s : State) (sound : Sound (yearIn ws s)) (j : ℕ) (h 
   unfolding sumsAt fixedCount openCount
   fits-10 =
       let y = yearIn ws z in
-      let a = sound-at rule10 lists-10 ws s sound alive j h z inv in
-      let u = sums-at rule10 lists-10 ws s sound alive j h z inv in
+      let a = sound-at rule10 (lists-10 .narrows) ws s sound alive j h z inv in
+      let u = sums-at rule10 (lists-10 .narrows) ws s sound alive j h z inv in
       let p : getD (z .sums) j noSums .placed .0 ≡ fixedCount y j = ap (λ (u : Sums). u .placed .0) u in
       let f : getD (z .sums) j noSums .free .0 ≡ openCount y j = ap (λ (u : Sums). u .free .0) u in
       omega (arith, counts-le y j, a .courses-most)
@@ -187,12 +141,5 @@ module _ (ws : List ℕ) (s : State) (sound : Sound (yearIn ws s)) (j : ℕ) (h 
   pub turn-10 : (w : TermVerdict) → w ≡ termVerdict10 (termAt (yearIn ws s) j) (getD (z .sums) j noSums) → TermTurn rule10 ws s z j w
   turn-10 w q =
       let read : w ≡ termVerdict10 (termAt (yearIn ws z) j) (sumsAt (yearIn ws z) j) =
-      q ∙ ap₂ termVerdict10 (term-at rule10 lists-10 ws s sound alive j h z inv) (sums-at rule10 lists-10 ws s sound alive j h z inv) in
+      q ∙ ap₂ termVerdict10 (term-at rule10 lists-10 ws s sound alive j h z inv) (sums-at rule10 (lists-10 .narrows) ws s sound alive j h z inv) in
       turn-at rule10 lists-10 ws s sound alive j h z inv going w (rule-10-is (yearIn ws z) j ∙ ap (λ x. termJudged x (yearIn ws z) j) (sym read))
-
--- ---- where the loops end
-
--- at the last term, or at one where no plan was found
-pub ends : (rule : Year → ℕ → Step) (s : Step) (j : ℕ) → j ≤ s .year .terms → ltb j (s .year .terms) && eqb (overTo rule s j .rule) 0 ≡ false
-    → overTo rule s j ≡ overTerms rule s
-ends rule s j h e = fold-finish goes (then rule) s j (s .year .terms) h e

@@ -1,5 +1,5 @@
 -- What rules 3 and 10 say of a whole term, and what that makes of its courses.
-use Prim.Native.Nat.{ℕ, _+_, _-_, _^_}
+use Prim.Native.Nat.{ℕ, _+_}
 use mathlib.Core.Bool.{_&&_, _||_}
 use lib.Dec.{eqb, leb, ltb}
 use Rattle.theory.specs.Choice.{choose}
@@ -12,7 +12,7 @@ use Rattle.year.specs.declared.Year.{Year}
 use Rattle.rules.specs.Step.{live, dead, judged, overCourses, Step}
 use Rattle.rules.specs.Lists.{verdict3, verdict10}
 use Rattle.rules.specs.declared.Verdict.{Verdict}
-use Rattle.rules.specs.declared.Verdict.the-variants.{Stays, Struck, Fixed}
+use Rattle.rules.specs.declared.Verdict.the-variants.{Stays}
 use Rattle.lists.specs.declared.TermVerdict.{TermVerdict}
 use Rattle.lists.specs.declared.TermVerdict.the-variants.{Nothing, ByCredits, ByCounts, NoPlan}
 
@@ -39,12 +39,6 @@ courseVerdict Nothing c t p P j = Stays
 courseVerdict ByCredits c t p P j = verdict3 c t p P j
 courseVerdict (ByCounts full needed) c t p P j = verdict10 full needed c j
 courseVerdict (NoPlan r) c t p P j = Stays
-
--- a course's list after a verdict in term j
-abbrev pub listAfter : Verdict → ℕ → ℕ → ℕ
-listAfter Stays l j = l
-listAfter Struck l j = l - 2 ^ j
-listAfter Fixed l j = 2 ^ j
 
 -- a course of term j under it, with p and P read anew
 unfoldable pub courseJudged : TermVerdict → ℕ → Year → ℕ → Step

@@ -30,7 +30,7 @@ pub fn each_course(s: State, weight: &[u32], j: usize, whole: TermVerdict) -> St
         let v = verdicts::course_verdict(whole, c, t, u.fixed, u.possible, j);
         if let Verdict::Stays = v {} else {
             let sums = z.sums;
-            let after = verdicts::list_after(v, c.list, j);
+            let after = frame::verdicts::list_after(v, c.list, j);
             let next = summing::changed(sums, c, after);
             z.list[i] = after;
             z.sums = next;

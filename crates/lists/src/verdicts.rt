@@ -6,14 +6,12 @@ use year::Courses;
 use year::Credits;
 use year::Sums;
 use year::Term;
-use year::doors;
 use year::pairs;
 use year::tighter;
 ghost use mathlib.Core.Path.{_≡_};
-ghost use Prim.Native.Nat.{_+_, _-_, _^_, _≤_, _<_};
+ghost use Prim.Native.Nat.{_+_, _<_};
 ghost use Rattle.rules.specs.Lists.{verdict3, verdict10};
-ghost use Rattle.rules.specs.declared.Verdict.the-variants.{Struck};
-ghost use Rattle.lists.specs.TermVerdict.{termVerdict3, termVerdict10, courseVerdict, listAfter};
+ghost use Rattle.lists.specs.TermVerdict.{termVerdict3, termVerdict10, courseVerdict};
 
 // Rule 3: no open course of the term weighs more than `heaviest`, so it says nothing with room for that and enough without it.
 pub fn term_verdict_3(t: Term, u: Sums, heaviest: Credits) -> TermVerdict
@@ -96,18 +94,5 @@ pub fn course_verdict(
         TermVerdict::ByCounts(full, needed) => verdict_10(full, needed, c, j),
         TermVerdict::Nothing => Verdict::Stays,
         TermVerdict::NoPlan(_) => Verdict::Stays,
-    }
-}
-
-// A course's list after a verdict in term j.
-pub fn list_after(v: Verdict, list: u16, j: usize) -> u16
-    requires { ⌜ j < 16 ⌝ }
-    requires { ⌜ (v ≡ Struck → 2 ^ j ≤ list) ⌝ }
-    ensures { λ r. ⌜ r ≡ listAfter v list j ⌝ }
-{
-    match v {
-        Verdict::Struck => list - doors::power(j),
-        Verdict::Fixed => doors::power(j),
-        Verdict::Stays => list,
     }
 }

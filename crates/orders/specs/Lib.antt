@@ -1,2 +1,2 @@
--- Inner, not to be believed: weights in an array, and the two orders over them.
+-- Inner, not to be believed: weights in an array, the two orders over them, and the heaviest.
 pub mod Orders

@@ -18,9 +18,10 @@ use Rattle.year.specs.Year.{weight, courseIn}
 use Rattle.rules.specs.Spares.{up}
 use Rattle.frame.specs.State.{yearIn}
 use Rattle.frame.specs.declared.State.{State}
+use Rattle.orders.specs.Orders.{lastWeight}
 use Rattle.orders.proofs.OrderLaws.{up-fits, up-onto, up-total, up-rises}
 use Rattle.packing.specs.Sizes.{sizeIn}
-use Rattle.packing.specs.Thresholds.{Rising, lastWeight}
+use Rattle.packing.specs.Thresholds.{Rising}
 
 module _ (w : List ℕ) (s : State) (a : Sound (yearIn w s)) where
   abbrev n : ℕ

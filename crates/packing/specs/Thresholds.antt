@@ -1,12 +1,11 @@
 -- The thresholds that occur, over sizes in arrays: what is tried, and what the order of the courses is good for.
-use Prim.Native.Nat.{ℕ, _-_, _/_, _≤_, _<_}
+use Prim.Native.Nat.{ℕ, _/_, _≤_, _<_}
 use mathlib.Core.Bool.{Bool, not, _&&_}
 use mathlib.Core.List.{List}
 use mathlib.Core.Logic.{_⊎_}
 use mathlib.Core.Path.{_≡_}
-use lib.Dec.{eqb, leb, ltb}
+use lib.Dec.{leb, ltb}
 use lib.ListN.{length, getD}
-use Rattle.theory.specs.Choice.{choose}
 use Rattle.theory.specs.Sum.{pick, sum}
 use Rattle.packing.specs.Sizes.{over}
 
@@ -26,10 +25,6 @@ pub record Fitting (a o b : List ℕ) (c heaviest : ℕ) : Type 0 where
   pub light : heaviest ≤ 1000
   pub top : (i : ℕ) → i < length a → getD a i 0 ≤ heaviest
   pub rising : Rising a o
-
--- the weight of the last of n courses in an order; 0 of none
-abbrev pub lastWeight : List ℕ → List ℕ → ℕ → ℕ
-lastWeight w o n = choose (eqb n 0) 0 (getD w (getD o (n - 1) 0) 0)
 
 -- the sum of the sizes that are at least t
 abbrev pub fromAt : List ℕ → ℕ → ℕ → ℕ

@@ -38,7 +38,7 @@ fn unpackable(s: State, weight: &[u32], rising: &[u8]) -> bool
     let course = sizes::course_sizes(weight, &list, n);
     let own = sizes::term_sizes(term, m, sums, c);
     let limit = Credits(m as u32 * c.0);
-    let heaviest = thresholds::heaviest(weight, rising, n);
+    let heaviest = orders::heaviest(weight, rising, n);
     thresholds::overfull(&course[..n], rising, &own[..m], c, limit, heaviest)
 }
 

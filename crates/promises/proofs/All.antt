@@ -10,6 +10,7 @@ use Rattle.promises.proofs.ImbalancePlan.{imbalance-means}
 use Rattle.promises.proofs.JoinedYear.{hours-mean}
 use Rattle.promises.proofs.SpareRoom.{spare-room}
 use Rattle.promises.proofs.Reasons.{steps-explained}
+use Rattle.promises.proofs.Neighbours.{no-subset-within}
 use Rattle.promises.proofs.Decimal.{numbers-read}
 use Rattle.promises.proofs.Listing.{plans-counted, year-e-whole}
 use Rattle.promises.proofs.Table.{table-holds}
@@ -37,5 +38,6 @@ promises M = record {
   made-by-hand = made-by-hand;
   spare-room = spare-room;
   sizes-are-enough = at-sizes-is;
+  no-subset-within = no-subset-within;
   steps-explained = steps-explained;
 }

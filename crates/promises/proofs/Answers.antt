@@ -104,7 +104,7 @@ filtering-due = record { unsound = λ y. eight y (isSound y) refl; named = λ y.
     eight y false e = (λ q. no-sound y e, λ z. unsound-number y e)
 
     thirteen : (y : Year) (b : Bool) → isSound y ≡ b → filterNumber (filterOf y .answer) ≡ 13
-        → (1 ≤ filterRule (filterOf y .answer)) × (filterRule (filterOf y .answer) ≤ 11) × (1 ≤ filterRounds (filterOf y .answer))
+        → (1 ≤ filterRule (filterOf y .answer)) × (filterRule (filterOf y .answer) ≤ 12) × (1 ≤ filterRounds (filterOf y .answer))
     thirteen y true e q =
         let t = sound-said y (sound-of y e) in
         (t .named q, answer-few y .0, t .some-round)

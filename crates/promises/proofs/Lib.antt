@@ -19,6 +19,7 @@ pub mod Sequence
 pub mod SumsKept
 pub mod SpareRoom
 pub mod Reasons
+pub mod Neighbours
 pub mod Boundary
 pub mod Decimal
 pub mod Listing

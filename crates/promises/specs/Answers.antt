@@ -22,8 +22,8 @@ pub record WritingDue : Type 0 where
   pub short : (y : Year) (room : ℕ) → (writingNumber (writeAnswer y room) ≡ 9) ↔ (Sound y × (room < length (recordsOf y)))
   pub done : (y : Year) (room : ℕ) → (writingNumber (writeAnswer y room) ≡ 0) ↔ (Sound y × (length (recordsOf y) ≤ room))
 
--- a filtering: a no plan comes with one of the eleven rules and a round that was run
+-- a filtering: a no plan comes with one of the twelve rules and a round that was run
 pub record FilteringDue : Type 0 where
   pub unsound : (y : Year) → (filterNumber (filterOf y .answer) ≡ 8) ↔ (Sound y → ⊥)
   pub named : (y : Year) → filterNumber (filterOf y .answer) ≡ 13
-      → (1 ≤ filterRule (filterOf y .answer)) × (filterRule (filterOf y .answer) ≤ 11) × (1 ≤ filterRounds (filterOf y .answer))
+      → (1 ≤ filterRule (filterOf y .answer)) × (filterRule (filterOf y .answer) ≤ 12) × (1 ≤ filterRounds (filterOf y .answer))

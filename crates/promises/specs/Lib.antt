@@ -20,5 +20,6 @@ pub mod SumsKept
 pub mod ByHand
 pub mod SpareRoom
 pub mod SizesTried
+pub mod Neighbours
 pub mod Reasons
 pub mod Promises

@@ -42,8 +42,8 @@ pub record ListingDue : Type 0 where
 abbrev pub PlansCounted : Type 0
 PlansCounted = (y : Year) → EachPlanOnce y (plansOf y)
 
--- the bytes of its five records read to year E, its listing is the paper's six lines, and it has exactly two plans: course 0 or
--- course 1 in term 0, and the others in term 1
+-- the bytes of its five records read to year E, its listing is the paper's six lines, the last as request A5 has it, and it has
+-- exactly two plans: course 0 or course 1 in term 0, and the others in term 1
 pub record YearE : Type 0 where
   pub reads : readList bytesE ≡ done yearE
   pub lists : listingOf bytesE ≡ linesE

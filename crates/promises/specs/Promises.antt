@@ -13,6 +13,7 @@ use Rattle.promises.specs.SumsKept.{SumsKept}
 use Rattle.promises.specs.ByHand.{MadeByHand}
 use Rattle.promises.specs.SpareRoom.{SpareRoom}
 use Rattle.promises.specs.SizesTried.{SizesAreEnough}
+use Rattle.promises.specs.Neighbours.{NoSubsetWithin}
 use Rattle.promises.specs.Reasons.{StepsExplained}
 
 pub record Promises (M : Type 1) : Type 2 where
@@ -34,4 +35,5 @@ pub record Promises (M : Type 1) : Type 2 where
   pub made-by-hand : MadeByHand
   pub spare-room : SpareRoom
   pub sizes-are-enough : SizesAreEnough
+  pub no-subset-within : NoSubsetWithin
   pub steps-explained : StepsExplained

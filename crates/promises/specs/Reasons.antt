@@ -14,9 +14,10 @@ use Rattle.rules.specs.Bounds.{rule1, rule2, rule4, rule5}
 use Rattle.rules.specs.Lists.{rule3Course, full, needed, rule10Course, rule10}
 use Rattle.rules.specs.Spares.{rule6, rule7, rule8, rule9}
 use Rattle.rules.specs.Packing.{rule11}
+use Rattle.rules.specs.Neighbours.{rule12Course, rule12}
 use Rattle.rules.specs.Facts.{Fact, Holds, Meets, Basis, Rests, Concludes, Suffice}
 use Rattle.rules.specs.FactAt.{just, pairAt, boundAt, foundAt, Right}
-use Rattle.rules.specs.Reasons.{Reason, Alters, reason14, reason25, reason3, reason10Course, reason10, reason6, reason7, reason8, reason9, reason11}
+use Rattle.rules.specs.Reasons.{Reason, Alters, reason14, reason25, reason3, reason10Course, reason10, reason6, reason7, reason8, reason9, reason11, reason12, reason12Course}
 
 -- ---- a reason that can be checked alone
 
@@ -57,6 +58,7 @@ pub record StepsExplained : Type 0 where
   pub rule-8 : AtTerms (λ y j. Explained y (reason8 y j))
   pub rule-9 : AtTerms (λ y j. Explained y (reason9 y j))
   pub rule-10 : AtTerms (λ y j. Explained y (reason10 y j) × ((i : ℕ) → i < y .courses → Explained y (reason10Course y j i)))
+  pub rule-12 : AtTerms (λ y j. Explained y (reason12 y j) × ((i : ℕ) → i < y .courses → Explained y (reason12Course y j i)))
   pub rule-11 : (y : Year) → Sound y → Explained y (reason11 y)
   -- each rule is its reasons
   pub by-1 : InTwo 1 rule1 (reason14 Credits)
@@ -75,6 +77,9 @@ pub record StepsExplained : Type 0 where
       → let rule = rule10Course (full y j) (needed y j) j in
       let z = overTo rule (live y) i .year in
       rule z i ≡ applied 10 z (reason10Course z j i .change))
+  pub by-12 : (y : Year) (j : ℕ) → let none = applied 12 y (reason12 y j .change) in
+      rule12 y j ≡ choose (goes none) (overCourses (rule12Course j) (live y)) none
+  pub by-12-course : (y : Year) (j i : ℕ) → rule12Course j y i ≡ applied 12 y (reason12Course y j i .change)
   pub by-11 : (y : Year) → rule11 y ≡ applied 11 y (reason11 y .change)
   -- by place, for lists of them
   pub found : (y : Year) (b : Basis) → FactsFound y b

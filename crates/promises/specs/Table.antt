@@ -69,7 +69,7 @@ row c p = record { computed = c; paper = p }
 abbrev pub table : List Row
 table =
     -- 1. year E: open, 2 rounds
-    row (numbersOf (filterOf yearE)) (0 ∷ 0 ∷ 0 ∷ 2 ∷ 3 ∷ 4 ∷ 1 ∷ 1 ∷ 5 ∷ 6 ∷ 2 ∷ 2 ∷ 4 ∷ 3 ∷ 3 ∷ 3 ∷ 2 ∷ 3 ∷ [])
+    row (numbersOf (filterOf yearE)) (0 ∷ 0 ∷ 0 ∷ 2 ∷ 3 ∷ 4 ∷ 1 ∷ 1 ∷ 5 ∷ 6 ∷ 2 ∷ 2 ∷ 4 ∷ 3 ∷ 3 ∷ 3 ∷ 2 ∷ 2 ∷ [])
     -- 2. one term 0-10, count 0-5, no course: settled, 2 rounds
     ∷ row (numbersOf (filterOf (yearOf (termOf 0 10 0 5 ∷ []) []))) (0 ∷ 1 ∷ 0 ∷ 2 ∷ 0 ∷ 0 ∷ 0 ∷ 0 ∷ [])
     -- 3. one term 0-0, count 0-0, no course: settled, 1 round

@@ -150,3 +150,12 @@ packing-by-no-fixed = refuted tight (theFixed never with theBound High Credits e
 crossing-by-the-bound-that-moves : Refuted tight (theFixed (own 0) with theBound Low Credits (own 0)) (crosses Low Credits 0)
 unfolding computing
 crossing-by-the-bound-that-moves = refuted tight (theFixed (own 0) with theBound Low Credits (own 0)) (crosses Low Credits 0) (0 ∷ 1 ∷ []) refl refl (λ e. e)
+
+-- the course of 2 that does not list a term of 2 credits stands there, and the open one of 3 in the other
+neighbours-by-no-unlisted : let y = beside (termOf 2 2 0 2) (courseOf 3 3 ∷ courseOf 2 2 ∷ []) in
+    Refuted y ((theUnlisted never with theFixed (own 0)) with (theBound Low Credits (own 0) with theBound High Credits (own 0))) fails
+unfolding computing
+neighbours-by-no-unlisted =
+    refuted (beside (termOf 2 2 0 2) (courseOf 3 3 ∷ courseOf 2 2 ∷ []))
+    ((theUnlisted never with theFixed (own 0)) with (theBound Low Credits (own 0) with theBound High Credits (own 0))) fails
+    (1 ∷ 0 ∷ []) refl refl (λ e. e)

@@ -11,6 +11,7 @@ pub mod FactsNeeded
 pub mod SumsSuffice
 pub mod WalksSuffice
 pub mod PackingSuffices
+pub mod NeighboursSuffice
 pub mod ReasonsGood
 pub mod Steps
 pub mod PlansKept

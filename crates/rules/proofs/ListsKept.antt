@@ -1,4 +1,4 @@
--- Rules 3 and 10 narrow and keep exactly the plans, course by course and so at a term.
+-- Rules 3, 10 and 12 narrow and keep exactly the plans, course by course and so at a term.
 use Prim.Native.Nat.{ℕ, _+_, _-_, _^_, _≤_, _<_}
 use mathlib.Core.Bool.{Bool, true, false, _||_, true≢false}
 use mathlib.Core.Path.{_≡_, refl, sym, ap, subst, _∙_}
@@ -23,15 +23,16 @@ use Rattle.year.specs.declared.Year.{Year}
 use Rattle.year.proofs.DoorLaws.{list-same, list-other}
 use Rattle.rules.specs.Step.{rests, fails, live, dead, applied, ruled, judged, goes, then, overTo, overCourses, Step}
 use Rattle.rules.specs.Lists.{verdictAt3, rule3Course, rule3, overfull, short, full, needed, verdict10, rule10Course, rule10}
+use Rattle.rules.specs.Neighbours.{cannotBe, verdict12, rule12Course, rule12}
 use Rattle.rules.specs.Facts.{never, theFixed}
-use Rattle.rules.specs.Reasons.{reason, basisRoom, basisNeed, reason3, reason10, reason10Course}
+use Rattle.rules.specs.Reasons.{reason, basisRoom, basisNeed, reason3, reason10, reason10Course, reason12, reason12Course}
 use Rattle.rules.specs.declared.Verdict.{Verdict}
 use Rattle.rules.specs.declared.Verdict.the-variants.{Stays, Struck, Fixed}
 use Rattle.rules.proofs.PlanSums.{open-facts, count-halves}
 use Rattle.rules.proofs.Narrows.{narrows-rest, narrows-then}
 use Rattle.rules.proofs.PlansKept.{Held}
 use Rattle.rules.proofs.KeptOver.{kept-rest, kept-then, AtTerms}
-use Rattle.rules.proofs.ReasonsGood.{good3, good10, good10-course}
+use Rattle.rules.proofs.ReasonsGood.{good3, good10, good10-course, good12, good12-course}
 use Rattle.rules.proofs.ReasonsKept.{good-held}
 
 -- ---- a verdict is a change under any rule
@@ -194,3 +195,20 @@ unfolding rule10
 rule10-held y j s l =
     choose-case (Held y) (overfull y j || short y j) (dead 10 y) (overCourses (rule10Course (full y j) (needed y j) j) (live y)) (none-10 y j s l)
     (λ e. over-10 y j s l (y .courses) (le-refl (y .courses)) .0)
+
+-- ---- rule 12
+
+none-12 : (y : Year) (j : ℕ) → Sound y → j < y .terms → cannotBe y j ≡ true → Held y (dead 12 y)
+none-12 y j s l e = subst (λ b. Held y (applied 12 y (choose b fails rests))) e (good-held 12 y s (λ e. omega arith) (reason12 y j) (good12 y j s l))
+
+pub rule12-held : AtTerms Held rule12
+unfolding rule12 rule12Course
+rule12-held y j s l =
+    choose-case (Held y) (cannotBe y j) (dead 12 y) (overCourses (rule12Course j) (live y)) (none-12 y j s l)
+    (λ e.
+    over-held y (rule12Course j) (λ z. Unit {0})
+    (λ z i a t c u h. (
+      subst (Held z) (sym (judged-is 12 z i j (verdict12 z j i)))
+          (good-held 12 z a (λ e. omega arith) (reason12Course z j i) (good12-course z j a (omega arith) i (omega arith))),
+      tt,
+    )) s tt)

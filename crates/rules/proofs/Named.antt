@@ -1,12 +1,12 @@
--- The rule that a no plan names is the one that found it: pass k of a round names rule k alone, so a round names none past the last.
-use Prim.Native.Nat.{ℕ, suc, _+_, _/_, _≤_}
+-- The rule that a no plan names is the one that found it: each pass of a round names its own rule alone, so a round names none past
+-- the last.
+use Prim.Native.Nat.{ℕ, _+_, _/_, _≤_}
 use mathlib.Core.Bool.{Bool, _&&_, _||_}
 use mathlib.Core.List.{List, [], _∷_}
 use mathlib.Core.Logic.{_⊎_, inl, inr}
 use mathlib.Core.Path.{_≡_, refl, sym, subst}
 use native.Mathlib.Omega.{arith}
 use lib.Dec.{eqb}
-use lib.ListN.{length}
 use Rattle.theory.specs.Choice.{choose}
 use Rattle.theory.specs.Tests.{any}
 use Rattle.theory.proofs.ChoiceLaws.{choose-case}
@@ -18,11 +18,12 @@ use Rattle.year.specs.declared.Side.the-variants.{Low, High}
 use Rattle.year.specs.declared.Year.{Year}
 use Rattle.rules.specs.declared.Verdict.{Verdict}
 use Rattle.rules.specs.declared.Verdict.the-variants.{Stays, Struck, Fixed}
-use Rattle.rules.specs.Step.{Change, rests, moves, strikes, fixes, crosses, fails, applied, goes, then, live, dead, judged, raiseLower, overTo, joined, Step}
+use Rattle.rules.specs.Step.{Change, rests, moves, strikes, fixes, crosses, fails, applied, goes, then, live, dead, judged, raiseLower, overTo, overTerms, joined, Step}
 use Rattle.rules.specs.Bounds.{ownSums, rule1, rule4, otherTerms, rule2, rule5}
 use Rattle.rules.specs.Lists.{verdictAt3, rule3, rule3Course, overfull, short, full, needed, verdict10, rule10, rule10Course}
 use Rattle.rules.specs.Spares.{leastCount, mostCount, leastLoad, mostLoad, rule6, rule7, rule8, rule9}
 use Rattle.rules.specs.Packing.{burst, room, bursts, rule11}
+use Rattle.rules.specs.Neighbours.{cannotBe, verdict12, rule12Course, rule12}
 use Rattle.rules.specs.Round.{passes, inRow, round}
 use Rattle.rules.proofs.Passes.{Pass, Each, _also_, lawful}
 
@@ -96,6 +97,14 @@ by-10 y j =
     choose-by 10 (overfull y j || short y j) (dead 10 y) _ (inr refl)
     (over-by 10 (rule10Course (full y j) (needed y j) j) (course-10 (full y j) (needed y j) j) y (y .courses))
 
+course-12 : (j : ℕ) (y : Year) (i : ℕ) → By 12 (rule12Course j y i .rule)
+unfolding rule12Course
+course-12 j y i = judged-by 12 y i j (verdict12 y j i)
+
+by-12 : (y : Year) (j : ℕ) → By 12 (rule12 y j .rule)
+unfolding rule12
+by-12 y j = choose-by 12 (cannotBe y j) (dead 12 y) _ (inr refl) (over-by 12 (rule12Course j) (course-12 j) y (y .courses))
+
 by-11 : (y : Year) → By 11 (rule11 y .rule)
 unfolding rule11
 by-11 y =
@@ -103,27 +112,28 @@ by-11 y =
     (choose-by 11 (eqb (room y) 0) (live y) _ (inl refl)
     (choose-by 11 (any (room y / 2 + 1) (bursts y (room y))) (dead 11 y) (live y) (inr refl) (inl refl)))
 
--- the pass at place k of the list, the first of which is at r, names rule k
+-- each pass of a list names a rule of its own, none of them past rule n
 abbrev pub Numbered : ℕ → List (Step → Step) → Type 0
-Numbered r [] = Unit {0}
-Numbered r (p ∷ ps) = Names r p × Numbered (suc r) ps
+Numbered n [] = Unit {0}
+Numbered n (p ∷ ps) = ((r : ℕ) × (r ≤ n) × Names r p) × Numbered n ps
 
-over-terms : (r : ℕ) (f : Year → ℕ → Step) → ((y : Year) (k : ℕ) → By r (f y k .rule)) → Names r (λ s. overTo f s (s .year .terms))
-over-terms r f h y = over-by r f h y (y .terms)
+over-terms : (r : ℕ) (f : Year → ℕ → Step) → r ≤ 12 → ((y : Year) (k : ℕ) → By r (f y k .rule)) → (r : ℕ) × (r ≤ 12) × Names r (overTerms f)
+over-terms r f l h = (r, l, λ y. over-by r f h y (y .terms))
 
-pub numbered : Numbered 1 passes
+pub numbered : Numbered 12 passes
 numbered =
-    over-terms 1 rule1 by-1
-    also over-terms 2 rule2 by-2
-    also over-terms 3 rule3 by-3
-    also over-terms 4 rule4 by-4
-    also over-terms 5 rule5 by-5
-    also over-terms 6 rule6 (λ y j. applied-by 6 y (leastCount y j))
-    also over-terms 7 rule7 (λ y j. applied-by 7 y (mostCount y j))
-    also over-terms 8 rule8 (λ y j. applied-by 8 y (leastLoad y j))
-    also over-terms 9 rule9 (λ y j. applied-by 9 y (mostLoad y j))
-    also over-terms 10 rule10 by-10
-    also by-11
+    over-terms 1 rule1 (omega arith) by-1
+    also over-terms 2 rule2 (omega arith) by-2
+    also over-terms 3 rule3 (omega arith) by-3
+    also over-terms 4 rule4 (omega arith) by-4
+    also over-terms 5 rule5 (omega arith) by-5
+    also over-terms 6 rule6 (omega arith) (λ y j. applied-by 6 y (leastCount y j))
+    also over-terms 7 rule7 (omega arith) (λ y j. applied-by 7 y (mostCount y j))
+    also over-terms 8 rule8 (omega arith) (λ y j. applied-by 8 y (leastLoad y j))
+    also over-terms 9 rule9 (omega arith) (λ y j. applied-by 9 y (mostLoad y j))
+    also over-terms 10 rule10 (omega arith) by-10
+    also over-terms 12 rule12 (omega arith) by-12
+    also (11, omega arith, by-11)
     also tt
 
 -- ---- a round
@@ -138,11 +148,10 @@ pass-most p law r n h k s a =
     (choose-case (λ (t : Step). t .rule ≤ n) (eqb (s .rule) 0) (joined s (p (live (s .year)))) s
     (λ e. by-most r n (p (live (s .year)) .rule) k (h (s .year))) (λ e. a))
 
-row-most : (n r : ℕ) (ps : List (Step → Step)) → Each Pass ps → Numbered r ps → r + length ps ≤ suc n → (s : Step) → s .rule ≤ n → inRow ps s .rule ≤ n
-row-most n r [] laws h k s a = a
-row-most n r (p ∷ ps) laws h k s a =
-    row-most n (suc r) ps (laws .1) (h .1) (omega arith) (p s) (pass-most p (laws .0) r n (h .0) (omega arith) s a)
+row-most : (n : ℕ) (ps : List (Step → Step)) → Each Pass ps → Numbered n ps → (s : Step) → s .rule ≤ n → inRow ps s .rule ≤ n
+row-most n [] laws h s a = a
+row-most n (p ∷ ps) laws h s a = row-most n ps (laws .1) (h .1) (p s) (pass-most p (laws .0) (h .0 .0) n (h .0 .2) (h .0 .1) s a)
 
-pub round-named : (y : Year) → round y .rule ≤ 11
+pub round-named : (y : Year) → round y .rule ≤ 12
 unfolding round
-round-named y = row-most 11 1 passes lawful numbered (omega arith) (live y) (omega arith)
+round-named y = row-most 12 passes lawful numbered (live y) (omega arith)

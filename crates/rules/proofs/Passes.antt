@@ -1,4 +1,4 @@
--- What a pass of a round is held to, that each of the eleven meets it, and what follows of passes in a row: by one induction each.
+-- What a pass of a round is held to, that each of the twelve meets it, and what follows of passes in a row: by one induction each.
 use Prim.Native.Nat.{ℕ, zero, suc, _+_, _-_}
 use mathlib.Core.Bool.{Bool, true, false, _||_}
 use mathlib.Core.List.{List, [], _∷_}
@@ -17,13 +17,14 @@ use Rattle.rules.specs.Bounds.{rule1, rule2, rule4, rule5}
 use Rattle.rules.specs.Lists.{rule3, rule10}
 use Rattle.rules.specs.Spares.{rule6, rule7, rule8, rule9}
 use Rattle.rules.specs.Packing.{rule11}
+use Rattle.rules.specs.Neighbours.{rule12}
 use Rattle.rules.specs.Round.{once, passes, inRow, passesOf, passesFrom, round}
 use Rattle.rules.specs.Narrower.{Narrower}
 use Rattle.rules.proofs.Narrows.{narrower-then, Narrows, quiet, narrows-rest, narrows-next, next-dead}
 use Rattle.rules.proofs.PlansKept.{PlansKept, Held}
 use Rattle.rules.proofs.KeptOver.{narrows-terms, kept-rest, kept-next, AtTerms, kept-terms}
 use Rattle.rules.proofs.RulesHeld.{rule1-held, rule2-held, rule4-held, rule5-held, rule6-held, rule7-held, rule8-held, rule9-held, rule11-held}
-use Rattle.rules.proofs.ListsKept.{rule3-held, rule10-held}
+use Rattle.rules.proofs.ListsKept.{rule3-held, rule10-held, rule12-held}
 
 -- ---- the laws of a pass
 
@@ -71,7 +72,7 @@ pass-terms f held = record {
 pub pass-once : (f : Year → Step) → ((y : Year) → Sound y → Held y (f y)) → Pass (once f)
 pass-once f held = record { steps = λ s. refl; narrows = λ y s. held y s .0; kept = λ y s. held y s .1 }
 
--- ---- each of the eleven
+-- ---- each of the twelve
 
 abbrev pub Each : ((Step → Step) → Type 0) → List (Step → Step) → Type 0
 Each P [] = Unit {0}
@@ -93,6 +94,7 @@ lawful =
     also pass-terms rule8 rule8-held
     also pass-terms rule9 rule9-held
     also pass-terms rule10 rule10-held
+    also pass-terms rule12 rule12-held
     also pass-once rule11 rule11-held
     also tt
 

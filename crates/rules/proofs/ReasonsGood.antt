@@ -1,12 +1,13 @@
 -- Every reason of every rule is good.
 use Prim.Native.Nat.{ℕ, _+_, _-_, _/_, _<_}
-use mathlib.Core.Bool.{Bool, true}
+use mathlib.Core.Bool.{Bool, true, _||_}
 use mathlib.Core.Path.{_≡_}
 use native.Mathlib.Omega.{arith}
 use lib.Dec.{eqb, ltb}
 use borrow.Author.Tests.{ltb-true, eqb-true, eqb-false}
 use Rattle.theory.specs.Choice.{choose}
 use Rattle.theory.specs.Tests.{any}
+use Rattle.theory.specs.Neighbours.{fires}
 use Rattle.theory.proofs.ChoiceLaws.{choose-case}
 use Rattle.year.specs.Year.{termAt, courseAt, weight, isOpen, lowCredits, highCredits, lowCount, highCount}
 use Rattle.year.specs.Bound.{tightened}
@@ -18,13 +19,14 @@ use Rattle.year.specs.declared.Side.{Side}
 use Rattle.year.specs.declared.Side.the-variants.{Low, High}
 use Rattle.year.specs.declared.Year.{Year}
 use Rattle.year.proofs.BoundLaws.{tight-beyond, tight-crossed}
-use Rattle.rules.specs.Step.{rests, moves, strikes, fixes, crosses, fails, move}
+use Rattle.rules.specs.Step.{rests, moves, strikes, fixes, crosses, fails, move, ruled}
 use Rattle.rules.specs.Bounds.{othersOf}
 use Rattle.rules.specs.Lists.{verdict3, overfull, short, full, needed, verdict10}
 use Rattle.rules.specs.Spares.{walkOf, down, up, leastCount, mostCount, leastLoad, mostLoad}
 use Rattle.rules.specs.Packing.{burst, room, bursts}
+use Rattle.rules.specs.Neighbours.{needs, takes, rest, cannotBe, verdict12}
 use Rattle.rules.specs.Facts.{Basis, Suffice, never, theFixed}
-use Rattle.rules.specs.Reasons.{reason, because, Good, basis14, reason14, basis25, reason25, basisRoom, basisNeed, reasonOn, reason3, reason10Course, reason10, basisWalk, reason6, reason7, reason8, reason9, basis11, reason11}
+use Rattle.rules.specs.Reasons.{reason, because, Good, basis14, reason14, basis25, reason25, basisRoom, basisNeed, basisOn, reason3, reason10Course, reason10, basisWalk, reason6, reason7, reason8, reason9, basis11, reason11, basis12, reason12, reason12Course}
 use Rattle.rules.specs.declared.Until.the-variants as until
 use Rattle.rules.specs.declared.Verdict.{Verdict}
 use Rattle.rules.specs.declared.Verdict.the-variants.{Stays, Struck, Fixed}
@@ -32,6 +34,7 @@ use Rattle.rules.proofs.FactLaws.{crossing-suffices}
 use Rattle.rules.proofs.SumsSuffice.{raise-14, lower-14, raise-25, lower-25, negative-25, overfull-10, short-10, strike-3, fix-3}
 use Rattle.rules.proofs.WalksSuffice.{raise-6, short-6, lower-7, raise-8, short-8, lower-9}
 use Rattle.rules.proofs.PackingSuffices.{burst-11, sizes-11}
+use Rattle.rules.proofs.NeighboursSuffice.{none-12, strike-12, fix-12}
 
 -- ---- nothing, and no plan
 
@@ -94,34 +97,34 @@ module _ (y : Year) (j : ℕ) (sound : Sound y) (l : j < y .terms) where
   unfolding mostLoad
   good9 = move-good (basisWalk High Counts j) High Credits (walkOf y j (until.Count (termAt y j .most)) (down y) .credits) (lower-9 y j sound l)
 
--- ---- rules 3 and 10
+-- ---- rules 3, 10 and 12
 
 module _ (y : Year) (j : ℕ) (l : j < y .terms) where
-  -- of two tests, the first strikes and the second fixes
-  on-good : (q : Quantity) (i : ℕ) → i < y .courses → (a b : Bool) → (isOpen (courseAt y i) j ≡ true → a ≡ true → Suffice y (basisRoom q j) (strikes i j))
-      → (isOpen (courseAt y i) j ≡ true → b ≡ true → Suffice y (basisNeed q j) (fixes i j))
-      → Good y (reasonOn q i j (choose (isOpen (courseAt y i) j) (choose a Struck (choose b Fixed Stays)) Stays))
-  on-good q i h a b strike fix =
+  -- of two tests, the first strikes and the second fixes; each verdict has its basis
+  on-good : (basis : Verdict → Basis) (i : ℕ) → i < y .courses → (a b : Bool) → (isOpen (courseAt y i) j ≡ true → a ≡ true → Suffice y (basis Struck) (strikes i j))
+      → (isOpen (courseAt y i) j ≡ true → b ≡ true → Suffice y (basis Fixed) (fixes i j))
+      → let v = choose (isOpen (courseAt y i) j) (choose a Struck (choose b Fixed Stays)) Stays in Good y (reason (ruled i j v) (basis v))
+  on-good basis i h a b strike fix =
       choose-case good (isOpen (courseAt y i) j) (choose a Struck (choose b Fixed Stays)) Stays
       (λ o.
       choose-case good a Struck (choose b Fixed Stays) (λ e. record { alters = (h, l, o); suffices = strike o e })
-      (λ e. choose-case good b Fixed Stays (λ f. record { alters = (h, l, o); suffices = fix o f }) (λ f. good-rest y (theFixed never))))
-      (λ o. good-rest y (theFixed never))
+      (λ e. choose-case good b Fixed Stays (λ f. record { alters = (h, l, o); suffices = fix o f }) (λ f. good-rest y (basis Stays))))
+      (λ o. good-rest y (basis Stays))
     where
       good : Verdict → Type 0
-      good v = Good y (reasonOn q i j v)
+      good v = Good y (reason (ruled i j v) (basis v))
 
   pub good3 : (i : ℕ) → i < y .courses → Good y (reason3 y j i)
   unfolding verdict3
   good3 i h =
-      on-good Credits i h (ltb (highCredits y j) (fixedCredits y j + weight y i)) (ltb (possibleCredits y j - weight y i) (lowCredits y j))
+      on-good (basisOn Credits j) i h (ltb (highCredits y j) (fixedCredits y j + weight y i)) (ltb (possibleCredits y j - weight y i) (lowCredits y j))
       (λ o e. strike-3 Credits y j l i h o (ltb-true (highCredits y j) (fixedCredits y j + weight y i) e))
       (λ o e. fix-3 Credits y j l i h o (omega (arith, ltb-true (possibleCredits y j - weight y i) (lowCredits y j) e)))
 
   pub good10-course : (i : ℕ) → i < y .courses → Good y (reason10Course y j i)
   unfolding verdict10
   good10-course i h =
-      on-good Counts i h (full y j) (needed y j)
+      on-good (basisOn Counts j) i h (full y j) (needed y j)
       (λ o e. strike-3 Counts y j l i h o (omega (arith, eqb-true (fixedCount y j) (highCount y j) e)))
       (λ o e. fix-3 Counts y j l i h o (omega (arith, eqb-true (fixedCount y j + openCount y j) (lowCount y j) e)))
 
@@ -133,6 +136,21 @@ module _ (y : Year) (j : ℕ) (l : j < y .terms) where
       choose-case (Good y) (short y j) (reason fails (basisNeed Counts j)) (reason rests (theFixed never))
       (λ f. good-fails y (basisNeed Counts j) (short-10 Counts y j l (ltb-true (fixedCount y j + openCount y j) (lowCount y j) f)))
       (λ f. good-rest y (theFixed never)))
+
+-- ---- rule 12
+
+module _ (y : Year) (j : ℕ) (s : Sound y) (l : j < y .terms) where
+  pub good12 : Good y (reason12 y j)
+  good12 =
+      choose-case (λ c. Good y (reason c (basis12 j))) (cannotBe y j) fails rests
+      (λ e. good-fails y (basis12 j) (none-12 y s j l e)) (λ e. good-rest y (basis12 j))
+
+  pub good12-course : (i : ℕ) → i < y .courses → Good y (reason12Course y j i)
+  unfolding verdict12
+  good12-course i h =
+      on-good y j l (λ v. basis12 j) i h
+      (ltb (takes y j) (weight y i) || fires (weight y) (rest y j i) (needs y j - weight y i) (takes y j - weight y i))
+      (fires (weight y) (rest y j i) (needs y j) (takes y j)) (strike-12 y s j l i h) (fix-12 y s j l i h)
 
 -- ---- rule 11
 

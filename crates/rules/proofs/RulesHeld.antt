@@ -1,4 +1,4 @@
--- Each rule narrows and keeps exactly the plans, because its reasons are good. Rules 3 and 10, over their courses: `ListsKept`.
+-- Each rule narrows and keeps exactly the plans, because its reasons are good. Rules 3, 10 and 12, over their courses: `ListsKept`.
 use Prim.Native.Nat.{_+_, _/_}
 use mathlib.Core.Bool.{Bool, true, false}
 use mathlib.Core.Path.{_≡_, refl, sym, subst}

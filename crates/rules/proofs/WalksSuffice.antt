@@ -8,12 +8,12 @@ use native.Mathlib.Decide.{decLt}
 use lib.Dec.{eqb}
 use lib.ListN.{getD}
 use borrow.Author.Tests.{eqb-true, eqb-false}
-use Rattle.theory.specs.Sum.{pick, sum}
+use Rattle.theory.specs.Sum.{pick, sum, weigh}
 use Rattle.theory.proofs.TestLaws.{and-true, any-true, any-false}
 use Rattle.theory.proofs.TabLaws.{getD-tab}
 use Rattle.theory.proofs.LoadLaws.{load}
 use Rattle.theory.proofs.WalkLaws.{Against, Falling, Rising, one, rule-6, rule-7, rule-8, rule-9}
-use Rattle.theory.proofs.Spare.{sumL, Spares, against-plan}
+use Rattle.theory.proofs.Spare.{Spares, against-plan}
 use Rattle.theory.proofs.Open.{other, other-apart, spareOf}
 use Rattle.theory.proofs.Start.{Begins, begun, falling, rising}
 use Rattle.theory.proofs.OrderLaws.{heavier-sum, heavier-down, lighter-sum, lighter-up}
@@ -98,7 +98,7 @@ module _ (y : Year) (j : ℕ) (s : Sound y) (side : Side) (q : Quantity) (p : Pl
   abbrev Begun : List ℕ → Type 0
   Begun o = Begins (table y j) (y .courses) 16 j (listsAt y) (fixedAt y) (ledger y j) p (openOf y j o) (spares y)
 
-  begins : (o : List ℕ) → ((f : ℕ → ℕ) → sumL f (openOf y j o) ≡ sum (y .courses) (λ i. pick (openAt y j i) (f i))) → Begun o
+  begins : (o : List ℕ) → ((f : ℕ → ℕ) → weigh f (openOf y j o) ≡ sum (y .courses) (λ i. pick (openAt y j i) (f i))) → Begun o
   begins o same = record { alone = alone y; ins = met-ins y p into pairs; fix = met-fix y p into pairs; low = lowCount y; lows = lows; fresh = fresh; same = same }
 
   begins-down : Begun (down y)

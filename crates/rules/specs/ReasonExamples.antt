@@ -1,4 +1,5 @@
 -- Reasons by themselves, by computation: what each rule does at a place of a small year, and the stretch of facts it rests on.
+use Prim.Native.Nat.{ℕ}
 use mathlib.Core.List.{List, [], _∷_}
 use mathlib.Core.Path.{_≡_, refl}
 use Rattle.year.specs.Year.{termOf, courseOf}
@@ -9,7 +10,7 @@ use Rattle.year.specs.declared.Year.{Year}
 use Rattle.rules.specs.Step.{Change, rests, moves, strikes, fixes, crosses, fails}
 use Rattle.rules.specs.Facts.{Fact, inside, outside, keeps}
 use Rattle.rules.specs.FactAt.{stretchOf}
-use Rattle.rules.specs.Reasons.{Reason, reason14, reason25, reason3, reason10, reason10Course, reason6, reason7, reason8, reason9, reason11}
+use Rattle.rules.specs.Reasons.{Reason, reason14, reason25, reason3, reason10, reason10Course, reason6, reason7, reason8, reason9, reason11, reason12, reason12Course}
 use Rattle.rules.specs.Examples.{seven, three, atATermsSize, beside, fixedAndOpen, bothOpen}
 use Rattle.rules.specs.Computing.{computing}
 
@@ -163,3 +164,26 @@ fixed-11 : told atATermsSize (reason11 atATermsSize)
     ≡ fails by inside 0 0 ∷ keeps High Credits 0 10 ∷ keeps High Credits 1 10 ∷ keeps High Credits 2 10 ∷ []
 unfolding computing
 fixed-11 = refl
+
+-- ---- rule 12: term 0 has a course of 3 fixed, one of 4 does not list it, and of a 1 and a 2 that do one is needed, or the other
+
+abbrev pub between : ℕ → Year
+between n = yearOf (termOf n n 0 9 ∷ termOf 0 9 0 9 ∷ []) (courseOf 3 1 ∷ courseOf 4 2 ∷ courseOf 1 3 ∷ courseOf 2 3 ∷ [])
+
+strike-12 :
+    told (between 5) (reason12Course (between 5) 0 2)
+    ≡ strikes 2 0 by inside 0 0 ∷ outside 1 0 ∷ keeps Low Credits 0 5 ∷ keeps High Credits 0 5 ∷ []
+unfolding computing
+strike-12 = refl
+
+fix-12 :
+    told (between 4) (reason12Course (between 4) 0 2)
+    ≡ fixes 2 0 by inside 0 0 ∷ outside 1 0 ∷ keeps Low Credits 0 4 ∷ keeps High Credits 0 4 ∷ []
+unfolding computing
+fix-12 = refl
+
+-- with a 2 alone there is no 4
+none-12 : let y = yearOf (termOf 4 4 0 9 ∷ termOf 0 9 0 9 ∷ []) (courseOf 3 1 ∷ courseOf 4 2 ∷ courseOf 2 3 ∷ []) in
+    told y (reason12 y 0) ≡ fails by inside 0 0 ∷ outside 1 0 ∷ keeps Low Credits 0 4 ∷ keeps High Credits 0 4 ∷ []
+unfolding computing
+none-12 = refl

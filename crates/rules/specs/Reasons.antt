@@ -17,6 +17,7 @@ use Rattle.rules.specs.Bounds.{ownSums, otherTerms}
 use Rattle.rules.specs.Lists.{verdictAt3, overfull, short, full, needed, verdict10}
 use Rattle.rules.specs.Spares.{leastCount, mostCount, leastLoad, mostLoad}
 use Rattle.rules.specs.Packing.{burst, room, bursts}
+use Rattle.rules.specs.Neighbours.{cannotBe, verdict12}
 use Rattle.rules.specs.Facts.{Basis, Suffice, never, every, own, besides, theFixed, theUnlisted, theBound, _with_}
 use Rattle.rules.specs.declared.Verdict.{Verdict}
 use Rattle.rules.specs.declared.Verdict.the-variants.{Stays, Struck, Fixed}
@@ -115,6 +116,17 @@ reason11 y =
     (choose (eqb (room y) 0) (reason rests basis11)
     (choose (any (room y / 2 + 1) (bursts y (room y))) (reason fails basis11)
     (reason rests basis11)))
+
+-- ---- rule 12: the unlisted and fixed pairs of j and both its credit bounds
+
+abbrev pub basis12 : ℕ → Basis
+basis12 j = (theUnlisted (own j) with theFixed (own j)) with (theBound Low Credits (own j) with theBound High Credits (own j))
+
+abbrev pub reason12 : Year → ℕ → Reason
+reason12 y j = reason (choose (cannotBe y j) fails rests) (basis12 j)
+
+abbrev pub reason12Course : Year → ℕ → ℕ → Reason
+reason12Course y j i = reason (ruled i j (verdict12 y j i)) (basis12 j)
 
 -- ---- what makes a reason good
 

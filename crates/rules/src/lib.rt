@@ -1,4 +1,4 @@
-// What the eleven rules decide, as definitions and code share it.
+// What the twelve rules decide, as definitions and code share it.
 use year::Courses;
 use year::Credits;
 

@@ -1,4 +1,5 @@
--- Laws of the definitions in specs/, and what the rules rest on: what a placing puts into terms, the spare lemma, packing.
+-- Laws of the definitions in specs/, and what the rules rest on: what a placing puts into terms, the spare lemma, packing,
+-- neighbouring sums.
 pub mod ChoiceLaws
 pub mod SumLaws
 pub mod TestLaws
@@ -15,4 +16,5 @@ pub mod Open
 pub mod Start
 pub mod OrderLaws
 pub mod PackingLaws
+pub mod NeighbourLaws
 pub mod ThresholdLaws

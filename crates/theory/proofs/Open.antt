@@ -7,11 +7,11 @@ use native.Mathlib.Omega.{arith}
 use native.Mathlib.Decide.{ℕ-discrete}
 use lib.Dec.{eqb}
 use borrow.Author.Tests.{eqb-true, eq-eqb}
-use Rattle.theory.specs.Sum.{pick, sum}
+use Rattle.theory.specs.Sum.{pick, sum, weigh}
 use Rattle.theory.proofs.SumLaws.{sum-cong, sum-mono, sum-add, sum-zero}
 use Rattle.theory.proofs.LoadLaws.{load}
 use Rattle.theory.proofs.WalkLaws.{one}
-use Rattle.theory.proofs.Spare.{sumL, need}
+use Rattle.theory.proofs.Spare.{need}
 
 -- course i lists j and is not fixed there
 abbrev pub openAt : (lists fixed : ℕ → ℕ → Bool) → ℕ → ℕ → Bool
@@ -112,7 +112,7 @@ module _ (n : ℕ) (lists fixed : ℕ → ℕ → Bool) (p : ℕ → ℕ) where
       )
 
   -- L goes through the open courses of j, each once, in some order
-  module _ (alone : Alone n lists fixed) (j : ℕ) (L : List ℕ) (same : (f : ℕ → ℕ) → sumL f L ≡ sum n (λ i. pick (openAt lists fixed i j) (f i))) where
+  module _ (alone : Alone n lists fixed) (j : ℕ) (L : List ℕ) (same : (f : ℕ → ℕ) → weigh f L ≡ sum n (λ i. pick (openAt lists fixed i j) (f i))) where
     need-other : (low : ℕ → ℕ) (k : ℕ) → Ins n lists p k → Fix n fixed p k → low k ≤ load n one p k → need (other lists j) p k L ≤ spareOf n lists fixed low k
     need-other low k ins fix h =
         omega (

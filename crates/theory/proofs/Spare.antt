@@ -18,15 +18,11 @@ use lib.Dec.{eqb}
 use borrow.Author.Tests.{eqb-true, ne-eqb}
 use Rattle.theory.specs.Walk.{Table, walk}
 use Rattle.theory.proofs.WalkLaws.{Against, hd, tl, dot, one, dominates}
-use Rattle.theory.specs.Sum.{pick, sum}
+use Rattle.theory.specs.Sum.{pick, sum, weigh}
 use Rattle.theory.proofs.SumLaws.{pick-le, pick-ne, sum-mono, sum-mono-add, sum-zero, sum-strict, sum-point-le}
 
-abbrev pub sumL : (ℕ → ℕ) → List ℕ → ℕ
-sumL f [] = 0
-sumL f (g ∷ L) = f g + sumL f L
-
 abbrev pub need : (other : ℕ → ℕ → Bool) (t : ℕ → ℕ) → ℕ → List ℕ → ℕ
-need other t k L = sumL (λ g. pick (other g k && not (eqb (t g) k)) 1) L
+need other t k L = weigh (λ g. pick (other g k && not (eqb (t g) k)) 1) L
 
 unfoldable pub over : (m : ℕ) (other : ℕ → ℕ → Bool) (t : ℕ → ℕ) → (ℕ → ℕ) → List ℕ → ℕ
 over m other t s L = sum m (λ k. need other t k L - s k)
@@ -115,7 +111,7 @@ abbrev pub marks : (t : ℕ → ℕ) (j : ℕ) → List ℕ → List Bool
 marks t j [] = []
 marks t j (g ∷ L) = eqb (t g) j ∷ marks t j L
 
-pub dot-marks : (f t : ℕ → ℕ) (j : ℕ) (L : List ℕ) → dot f L (marks t j L) ≡ sumL (λ g. pick (eqb (t g) j) (f g)) L
+pub dot-marks : (f t : ℕ → ℕ) (j : ℕ) (L : List ℕ) → dot f L (marks t j L) ≡ weigh (λ g. pick (eqb (t g) j) (f g)) L
 dot-marks f t j [] = refl
 dot-marks f t j (g ∷ L) = ap (λ x. pick (eqb (t g) j) (f g) + x) (dot-marks f t j L)
 
@@ -150,7 +146,7 @@ module _ {S : Type 0} (T : Table S) (m j : ℕ) (other : ℕ → ℕ → Bool) (
   need-prefix k (suc r) (g ∷ L) = omega (arith, need-prefix k r L)
 
   pub prefix-dominance : (w : ℕ → ℕ) (L : List ℕ) (s : S) → ((k : ℕ) → k < m → need other t k L ≤ R .look s k)
-      → (r : ℕ) → sumL (λ g. pick (eqb (t g) j) 1) (take r L) ≤ (walk T w (λ c n x. false) (take r L) s 0 0) .count
+      → (r : ℕ) → weigh (λ g. pick (eqb (t g) j) 1) (take r L) ≤ (walk T w (λ c n x. false) (take r L) s 0 0) .count
   unfolding over against-plan
   prefix-dominance w L s h r =
       omega (

@@ -7,12 +7,12 @@ use Prim.Native.Nat.{ℕ, _+_, _-_, _≤_, _<_}
 use native.Mathlib.Omega.{arith}
 use native.Mathlib.Nat.{le-of-eq}
 use lib.Dec.{eqb}
-use Rattle.theory.specs.Sum.{pick, sum}
+use Rattle.theory.specs.Sum.{pick, sum, weigh}
 use Rattle.theory.proofs.SumLaws.{sum-zero}
 use Rattle.theory.proofs.LoadLaws.{load}
 use Rattle.theory.specs.Walk.{Table}
 use Rattle.theory.proofs.WalkLaws.{Against, dot, one, Down, Up, Falling, Rising}
-use Rattle.theory.proofs.Spare.{sumL, need, over, Spares, marks, dot-marks, against-plan}
+use Rattle.theory.proofs.Spare.{need, over, Spares, marks, dot-marks, against-plan}
 use Rattle.theory.proofs.Open.{openAt, other, fixedSum, spareOf, Alone, Ins, Fix, load-split, need-holds}
 
 -- What a plan p has to keep, and no more: the lists at every term, and the low counts of the terms other than j.
@@ -24,7 +24,7 @@ pub record Begins {S : Type 0} (T : Table S) (n m j : ℕ) (lists fixed : ℕ �
   pub low : ℕ → ℕ
   pub lows : (k : ℕ) → k < m → (k ≡ j → ⊥) → low k ≤ load n one p k
   pub fresh : (k : ℕ) → k < m → R .look s k ≡ spareOf n lists fixed low k
-  pub same : (f : ℕ → ℕ) → sumL f L ≡ sum n (λ i. pick (openAt lists fixed i j) (f i))
+  pub same : (f : ℕ → ℕ) → weigh f L ≡ sum n (λ i. pick (openAt lists fixed i j) (f i))
 
 module _ {S : Type 0} {T : Table S} {n m j : ℕ} {lists fixed : ℕ → ℕ → Bool} {R : Spares T m j (other lists j)} {p : ℕ → ℕ} {L : List ℕ} {s : S}
     (b : Begins T n m j lists fixed R p L s) where

@@ -11,3 +11,4 @@ pub mod Fold
 pub mod Order
 pub mod Walk
 pub mod Packing
+pub mod Neighbours

@@ -69,7 +69,7 @@ pub enum Filtered {
     Settled { rounds: u32 },
     /// Some course has several terms.
     Open { rounds: u32 },
-    /// There is no plan: the rule and the round that found it. The buffer is as it was.
+    /// There is no plan: the rule, 1 to 12, and the round that found it. The buffer is as it was.
     NoPlan { rule: u8, round: u32 },
 }
 

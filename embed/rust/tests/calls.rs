@@ -20,7 +20,7 @@ fn filtering() {
     let mut out = [7; 81];
     assert_eq!(filter(&list, &mut out), Ok(Filtered::Open { rounds: 2 }));
     assert_eq!(Term::of(&out[..16]), Some(Term { low_credits: 3, high_credits: 4, low_count: 1, high_count: 1 }));
-    assert_eq!(Course::of(&out[64..80]), Some(Course { weight: 2, terms: 3 }));
+    assert_eq!(Course::of(&out[64..80]), Some(Course { weight: 2, terms: 2 }));
     assert_eq!(out[80], 7);
     let mut again = [0; 80];
     assert_eq!(filter(&out[..80], &mut again), Ok(Filtered::Open { rounds: 1 }));

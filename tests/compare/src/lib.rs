@@ -23,7 +23,7 @@ impl Planner for Library {
         match (packed::number(answer), detail) {
             (0, 1) => Answer::Settled { rounds: value as u32 },
             (0, 2) => Answer::Open { rounds: value as u32 },
-            (13, 1..=11) => Answer::NoPlan { rule: detail, round: value as u32 },
+            (13, 1..=12) => Answer::NoPlan { rule: detail, round: value as u32 },
             (number @ 2..=7, 0) => Answer::Refused { number, place: value as usize },
             (number @ (1 | 9), 0) if value == 0 => Answer::Refused { number, place: 0 },
             _ => panic!("filter answers {answer:#x}"),

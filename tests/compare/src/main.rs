@@ -22,13 +22,14 @@ const FIXED_SEEDS: [u64; 2] = [1, 2];
 /// ones, on which the independent program is slow.
 fn share(kind: Kind) -> u64 {
     match kind {
-        Kind::Small => 38,
-        Kind::Crowded => 8,
+        Kind::Small => 34,
+        Kind::Crowded => 7,
+        Kind::Gapped => 7,
         Kind::Hidden => 6,
         Kind::Spoilt => 6,
         Kind::Edges => 3,
-        Kind::Damaged => 18,
-        Kind::Arbitrary => 13,
+        Kind::Damaged => 17,
+        Kind::Arbitrary => 12,
         Kind::Placed => 8,
     }
 }

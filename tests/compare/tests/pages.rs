@@ -7,7 +7,7 @@ use independent::examples::examples;
 use independent::planner::Independent;
 use independent::records::bytes;
 use independent::trace::years_of;
-use independent::traps::{Trap, TRAPS, TRAPS_OF_A2};
+use independent::traps::{Trap, TRAPS, TRAPS_OF_A2, TRAPS_OF_A5};
 
 const RULES: &str = include_str!("../../../docs/RULES.md");
 const CLOSED_EXAMPLES: &str = include_str!("../../independent/closed-examples.md");
@@ -41,7 +41,8 @@ fn the_years_of_the_pages() {
     }
 }
 
-/// The closed examples find each trap in the independent program, the traced years each trap of rule 11 by A2.
+/// The closed examples find each trap in the independent program, the traced years each trap of rule 11 by A2 and of
+/// rule 12 by A5.
 #[test]
 fn traps_are_found_by_the_pages() {
     let found = |lists: &[Vec<u8>], traps: &[Trap]| {
@@ -49,6 +50,7 @@ fn traps_are_found_by_the_pages() {
     };
     found(&closed(CLOSED_EXAMPLES), &TRAPS);
     found(&traced(RULES), &TRAPS_OF_A2);
+    found(&traced(RULES), &TRAPS_OF_A5);
 }
 
 #[test]

@@ -1,6 +1,6 @@
-//! Tests of the test: with any one trap in the independent program, of document 01 or of request A2, or any one slip in
-//! its joining, the comparison through the boundary fails and shows the list, or both, and both listings; without a trap
-//! or a slip it does not fail.
+//! Tests of the test: with any one trap in the independent program, of document 01 or of requests A2 and A5, or any one
+//! slip in its joining, the comparison through the boundary fails and shows the list, or both, and both listings;
+//! without a trap or a slip it does not fail.
 
 use compare::Library;
 use independent::compare::{hex, run, run_pairs, Counts, Mismatch};

@@ -11,13 +11,14 @@ use std::collections::BTreeMap;
 use std::fmt;
 use std::ops::Range;
 
-use crate::filter::{years_before, Answer};
+use crate::filter::{filter_watched, years_before, Answer, Place, IN_ORDER};
 use crate::generate::{self, Kind, Pair, Random, KINDS};
 use crate::narrow::Narrowing;
 use crate::planner::Planner;
 use crate::plans;
 use crate::records;
-use crate::rules;
+use crate::rules::{self, Unfillable};
+use crate::traps::Trap;
 use crate::year::Year;
 
 /// Lent buffers are filled with this pattern and are longer than the records by one
@@ -38,6 +39,11 @@ pub const BY_P: &str = "NOPLAN 11 by p over high credits";
 pub const BY_A_THRESHOLD: &str = "NOPLAN 11 by a threshold";
 pub const ONLY_AT_HALF: &str = "NOPLAN 11 only at c/2";
 pub const ONLY_AT_A_TERM: &str = "NOPLAN 11 only at a term's size";
+
+/// The ways in which rule 12 finds no plan, as outcomes: p exceeds high credits in the term,
+/// or it fires on all its open courses.
+pub const BY_P_OF_A_TERM: &str = "NOPLAN 12 by p over high credits";
+pub const BY_FIRING: &str = "NOPLAN 12 by firing on all open courses";
 
 /// How often each outcome was seen, by kind of lists or of pairs.
 #[derive(Clone, Debug, Default)]
@@ -81,6 +87,13 @@ impl fmt::Display for Counts {
             self.seen(BY_A_THRESHOLD),
             self.seen(ONLY_AT_HALF),
             self.seen(ONLY_AT_A_TERM)
+        )?;
+        writeln!(
+            f,
+            "rule 12 ended {} lists: {} by p over high credits, {} by firing on all open courses",
+            self.seen("NOPLAN 12"),
+            self.seen(BY_P_OF_A_TERM),
+            self.seen(BY_FIRING)
         )
     }
 }
@@ -350,9 +363,7 @@ impl Both<'_> {
         let (answer, filtered) = self.filter(list)?;
         let year = self.year_of(list)?;
         note(word(answer));
-        if matches!(answer, Answer::NoPlan { rule: 11, .. }) {
-            ways_of_rule_11(&year).iter().for_each(|way| note(way.to_string()));
-        }
+        ways_of_no_plan(&year, answer).iter().for_each(|way| note(way.to_string()));
         self.check_filtered(list, answer, &filtered)?;
         self.short_buffers(list)?;
 
@@ -451,7 +462,7 @@ impl Both<'_> {
             Answer::Open { rounds } => (false, rounds),
             Answer::NoPlan { rule, round } => {
                 return self.demand(
-                    (1..=11).contains(&rule) && round >= 1,
+                    IN_ORDER.contains(&rule) && round >= 1,
                     list,
                     "no plan's numbers",
                 )
@@ -541,6 +552,15 @@ fn word(answer: Answer) -> String {
     }
 }
 
+/// How rule 11 or 12 finds no plan, as outcomes; nothing of any other answer.
+fn ways_of_no_plan(year: &Year, answer: Answer) -> Vec<&'static str> {
+    match answer {
+        Answer::NoPlan { rule: 11, .. } => ways_of_rule_11(year),
+        Answer::NoPlan { rule: 12, .. } => way_of_rule_12(year).into_iter().collect(),
+        _ => vec![],
+    }
+}
+
 /// How rule 11 finds no plan, as outcomes, on the last year that it meets: by this
 /// program's filtering, so that no planner is asked. None where it finds nothing there,
 /// as it may when two wrong programs are compared.
@@ -566,6 +586,23 @@ pub fn ways_of_rule_11(year: &Year) -> Vec<&'static str> {
         ways.push(ONLY_AT_A_TERM);
     }
     ways
+}
+
+/// How rule 12 finds no plan, as an outcome, at the last term that it meets; none where it
+/// finds nothing there, as above.
+pub fn way_of_rule_12(year: &Year) -> Option<&'static str> {
+    let mut last = None;
+    let mut watch = |at: Place, now: &Year| {
+        if at.rule == 12 {
+            last = Some((at.term, now.clone()));
+        }
+    };
+    filter_watched(year, &IN_ORDER, Trap::None, &mut watch);
+    let (j, met) = last?;
+    rules::unfillable(&met, j, Trap::None).map(|found| match found {
+        Unfillable::POverHighCredits => BY_P_OF_A_TERM,
+        Unfillable::FiresOnAllOpen => BY_FIRING,
+    })
 }
 
 /// The word for the counts of how large an imbalance is. From 2^32 it no longer fits

@@ -61,6 +61,7 @@ fn others(section: &str) -> Option<Vec<(Vec<u8>, String)>> {
 /// The trap that a title names by its number: "24. Trap 7: ..".
 fn trap_of(title: &str) -> Option<Trap> {
     let (_, number) = title.split_once("Trap ")?;
-    let number: usize = number.get(..1)?.parse().ok()?;
+    let end = number.find(|digit: char| !digit.is_ascii_digit())?;
+    let number: usize = number[..end].parse().ok()?;
     TRAPS.get(number.checked_sub(1)?).copied()
 }

@@ -1,4 +1,4 @@
-//! Rounds of the eleven rules until one alters nothing (01, "One round").
+//! Rounds of the twelve rules until one alters nothing (01, "One round"; 02, A5).
 
 use crate::rules::*;
 use crate::traps::Trap;
@@ -17,15 +17,15 @@ pub enum Answer {
     NoPlan { rule: u8, round: u32 },
 }
 
-/// The rules of a round, in order.
-pub const IN_ORDER: [u8; 11] = [1, 2, 3, 4, 5, 6, 7, 8, 9, 10, 11];
+/// The rules of a round, in order: rule 12 runs between rules 10 and 11.
+pub const IN_ORDER: [u8; 12] = [1, 2, 3, 4, 5, 6, 7, 8, 9, 10, 12, 11];
 
 /// Filters a year. Refusal 8 and "no plan" hand back the year received.
 pub fn filter(year: &Year, trap: Trap) -> (Answer, Year) {
-    if trap == Trap::SpareBelowZero {
-        filter_by(year, &[1, 2, 3, 5, 6, 7, 8, 9, 10, 11], trap)
-    } else {
-        filter_by(year, &IN_ORDER, trap)
+    match trap {
+        Trap::SpareBelowZero => filter_by(year, &[1, 2, 3, 5, 6, 7, 8, 9, 10, 12, 11], trap),
+        Trap::AfterRule11 => filter_by(year, &[1, 2, 3, 4, 5, 6, 7, 8, 9, 10, 11, 12], trap),
+        _ => filter_by(year, &IN_ORDER, trap),
     }
 }
 
@@ -88,7 +88,7 @@ pub fn filter_watched(
     }
 }
 
-/// Rules 1 to 10 each over terms 0, 1, 2 and so on, rule 11 once for the year.
+/// Rules 1 to 10 and 12 each over terms 0, 1, 2 and so on, rule 11 once for the year.
 pub fn run_rule(year: &mut Year, rule: u8, trap: Trap) -> Step {
     run_rule_watched(year, rule, trap, &mut |_, _| ())
 }
@@ -122,6 +122,7 @@ pub fn run_step(year: &mut Year, rule: u8, j: usize, trap: Trap) -> Step {
         9 => rule_9(year, j, trap),
         10 => rule_10(year, j),
         11 => rule_11(year, trap),
-        _ => panic!("the rules are 1 to 11"),
+        12 => rule_12(year, j, trap),
+        _ => panic!("the rules are 1 to 12"),
     }
 }

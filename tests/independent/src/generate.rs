@@ -1,12 +1,15 @@
 //! Seeded makers of years and lists: small years dense in every rule, years with a
 //! hidden plan, the edges of every size, damaged lists, arbitrary bytes, years whose
-//! courses are placed, to be measured, and crowded years, for rule 11. And of pairs of
-//! lists, to be joined, and of years with few placings, to try them all.
+//! courses are placed, to be measured, crowded years, for rule 11, and gapped ones, for
+//! rule 12. And of pairs of lists, to be joined, and of years with few placings, to try
+//! them all.
 
 mod few;
+mod gapped;
 mod pairs;
 
 pub use few::{years_with_few_placings, FewKind};
+pub use gapped::gapped;
 pub use pairs::{pair_of_kind, Pair, PairKind, PAIR_KINDS};
 
 use crate::filter::{filter, Answer};
@@ -90,19 +93,21 @@ pub enum Kind {
     Arbitrary,
     Placed,
     Crowded,
+    Gapped,
 }
 
-/// The kinds in the order in which they are run: first the two that are quick and
-/// show every trap.
-pub const KINDS: [Kind; 8] = [
+/// The kinds in the order in which they are run: first the three that are quick and
+/// show every trap, last those with large years, on which the program is slow.
+pub const KINDS: [Kind; 9] = [
     Kind::Small,
     Kind::Crowded,
-    Kind::Hidden,
-    Kind::Spoilt,
-    Kind::Edges,
+    Kind::Gapped,
     Kind::Damaged,
     Kind::Arbitrary,
     Kind::Placed,
+    Kind::Hidden,
+    Kind::Spoilt,
+    Kind::Edges,
 ];
 
 /// A list of a kind.
@@ -116,6 +121,7 @@ pub fn list(kind: Kind, random: &mut Random) -> Vec<u8> {
         Kind::Arbitrary => arbitrary(random),
         Kind::Placed => placed_list(random),
         Kind::Crowded => bytes(&crowded(random)),
+        Kind::Gapped => bytes(&gapped(random)),
     }
 }
 
@@ -146,7 +152,7 @@ pub fn small(random: &mut Random) -> Year {
 type Shape = (&'static [(i64, i64, i64, i64)], &'static [(i64, u32)]);
 
 /// Years on which something happens that other makers seldom meet: no plan by rules
-/// 7, 9, 10 and 11 (both its parts), and the traps.
+/// 7, 9, 10 and 12 (in both its ways), and the traps.
 const SHAPES: [Shape; 11] = [
     // Rule 7.
     (&[(0, 1, 0, 0), (0, 1, 0, 0), (0, 1, 0, 2)], &[(1, 5), (1, 6)]),
@@ -157,7 +163,7 @@ const SHAPES: [Shape; 11] = [
     // Rule 10, twice.
     (&[(0, 1, 1, 1), (1, 2, 0, 1), (1, 2, 0, 1)], &[(1, 7), (2, 6)]),
     (&[(1, 2, 0, 1), (1, 3, 0, 1), (1, 3, 0, 1)], &[(2, 7), (3, 7)]),
-    // Rule 11, by p and by the quotient.
+    // Rule 12, by p and by firing; without it rule 11 would find both.
     (&[(0, 2, 0, 2), (0, 3, 0, 2), (0, 1, 0, 0)], &[(1, 5), (2, 3), (2, 6)]),
     (&[(0, 5, 0, 2), (0, 5, 0, 2)], &[(2, 3), (2, 3), (2, 3), (4, 3)]),
     // One other term charged, twice.

@@ -1,4 +1,4 @@
-//! Steps and the facts that they rest on (02, A7, for rules 1 to 11): what a fact says, of
+//! Steps and the facts that they rest on (02, A7, for rules 1 to 12): what a fact says, of
 //! a year and of a placing, and what a step concludes.
 
 mod check;
@@ -8,7 +8,7 @@ mod telling;
 mod words;
 
 pub use check::{check, Counterexample, Fault, Placing};
-pub use gaps::{classes, Class, Gap};
+pub use gaps::{classes, needless, Class, Gap};
 pub use telling::{terms_of, told_alone, told_each_alone, told_filtering};
 
 use crate::year::{Term, Year};
@@ -21,7 +21,7 @@ pub enum Quantity {
 }
 
 /// A low bound says "at least", a high one "at most".
-#[derive(Clone, Copy, Debug, PartialEq, Eq)]
+#[derive(Clone, Copy, Debug, PartialEq, Eq, PartialOrd, Ord)]
 pub enum Side {
     Low,
     High,
@@ -191,6 +191,11 @@ pub enum Way {
     FixedPlusOpenBelowLowCount,
     POverHighCredits,
     QuotientOverTerms,
+    /// A strike of rule 12 because w exceeds b.
+    StrikeByWeight,
+    /// A strike of rule 12 because it fires on the rest.
+    StrikeByFiring,
+    FiresOnAllOpen,
 }
 
 /// The ways in which a rule can do something.
@@ -204,7 +209,8 @@ pub fn ways(rule: u8) -> &'static [Way] {
         7 | 9 => &[Lowering, CrossingByLowering],
         10 => &[Strike, Fixing, FixedExceedsHighCount, FixedPlusOpenBelowLowCount],
         11 => &[POverHighCredits, QuotientOverTerms],
-        _ => panic!("the rules are 1 to 11"),
+        12 => &[StrikeByWeight, StrikeByFiring, Fixing, POverHighCredits, FiresOnAllOpen],
+        _ => panic!("the rules are 1 to 12"),
     }
 }
 

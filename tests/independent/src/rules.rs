@@ -1,6 +1,6 @@
-//! The eleven rules of a round (01, "One round"; what rule 11 tries, 02, A2), each in
-//! its most literal form: whatever a rule speaks of is read from the year at the step
-//! that speaks of it.
+//! The twelve rules of a round (01, "One round"; what rule 11 tries, 02, A2; rule 12, 02,
+//! A5), each in its most literal form: whatever a rule speaks of is read from the year at
+//! the step that speaks of it.
 
 use std::collections::VecDeque;
 
@@ -352,7 +352,7 @@ pub fn rule_9(year: &mut Year, j: usize, trap: Trap) -> Step {
     lower_high_credits(year, j, most)
 }
 
-// ---- Rules 10 and 11 ----
+// ---- Rule 10 ----
 
 /// What rule 10 finds at a term, by its sentences in order.
 #[derive(Clone, Copy, Debug, PartialEq, Eq)]
@@ -397,6 +397,169 @@ pub fn rule_10(year: &mut Year, j: usize) -> Step {
     }
     Ok(())
 }
+
+// ---- Rule 12: neighbouring sums (02, A5) ----
+
+/// A set of open courses as rule 12 weighs it. Its sums are kept, since the rule asks for
+/// very many of them.
+#[derive(Clone, Debug)]
+pub struct Weighed {
+    /// From the lightest to the heaviest.
+    pub weights: Vec<i64>,
+    /// What the 0, 1, 2 and so on lightest weigh together.
+    sums: Vec<i64>,
+}
+
+impl Weighed {
+    pub fn of(mut weights: Vec<i64>) -> Weighed {
+        weights.sort();
+        let mut sums = vec![0];
+        for weight in &weights {
+            sums.push(sums[sums.len() - 1] + weight);
+        }
+        Weighed { weights, sums }
+    }
+
+    fn of_courses(year: &Year, courses: &[usize]) -> Weighed {
+        Weighed::of(courses.iter().map(|&i| year.courses[i].weight).collect())
+    }
+
+    pub fn size(&self) -> usize {
+        self.weights.len()
+    }
+
+    /// What the k heaviest weigh.
+    pub fn heaviest(&self, k: usize) -> i64 {
+        self.sums[self.size()] - self.sums[self.size() - k]
+    }
+
+    /// What the k lightest weigh.
+    pub fn lightest(&self, k: usize) -> i64 {
+        self.sums[k]
+    }
+
+    /// What the k lightest outside the k' lightest weigh.
+    pub fn lightest_outside(&self, k: usize, k_prime: usize) -> i64 {
+        self.sums[k_prime + k] - self.sums[k_prime]
+    }
+}
+
+/// It fires on a set and a range a to b exactly when there are k and k', with k + k' + 1
+/// at most the size of the set, such that the k heaviest plus the k' lightest weigh less
+/// than a, and the k + 1 lightest outside those k' weigh more than b.
+pub fn fires(set: &Weighed, (a, b): (i64, i64), trap: Trap) -> bool {
+    // What k + k' + 1 is at most.
+    let most = if trap == Trap::SizeNotReached { set.size().max(1) - 1 } else { set.size() };
+    for k in 0..most {
+        for k_prime in 0..most - k {
+            if set.heaviest(k) + set.lightest(k_prime) < a && above(set, k, k_prime, trap) > b {
+                return true;
+            }
+        }
+    }
+    false
+}
+
+/// What the k + 1 lightest outside those k' weigh.
+fn above(set: &Weighed, k: usize, k_prime: usize, trap: Trap) -> i64 {
+    if trap == Trap::LightestOfAll {
+        set.lightest(k + 1)
+    } else {
+        set.lightest_outside(k + 1, k_prime)
+    }
+}
+
+/// a is low credits less p (0 if negative), b is high credits less p.
+pub fn range(year: &Year, j: usize, p: i64) -> (i64, i64) {
+    let Term { low_credits, high_credits, .. } = year.terms[j];
+    ((low_credits - p).max(0), high_credits - p)
+}
+
+/// All open courses of a term, for rule 12.
+pub fn all_open(year: &Year, j: usize) -> Weighed {
+    Weighed::of_courses(year, &open(year, j))
+}
+
+/// The open courses of a term but one.
+pub fn rest(year: &Year, i: usize, j: usize) -> Weighed {
+    let others: Vec<usize> = open(year, j).into_iter().filter(|&other| other != i).collect();
+    Weighed::of_courses(year, &others)
+}
+
+/// How rule 12 finds no plan at a term before it takes its courses.
+#[derive(Clone, Copy, Debug, PartialEq, Eq)]
+pub enum Unfillable {
+    POverHighCredits,
+    FiresOnAllOpen,
+}
+
+/// If p exceeds high credits, or it fires on all open courses: no plan.
+pub fn unfillable(year: &Year, j: usize, trap: Trap) -> Option<Unfillable> {
+    let p = small_p(year, j);
+    if p > year.terms[j].high_credits {
+        Some(Unfillable::POverHighCredits)
+    } else if fires(&all_open(year, j), range(year, j, p), trap) {
+        Some(Unfillable::FiresOnAllOpen)
+    } else {
+        None
+    }
+}
+
+/// What rule 12 does with an open course.
+#[derive(Clone, Copy, Debug, PartialEq, Eq)]
+pub enum Deed {
+    StrikeByWeight,
+    StrikeByFiring,
+    Fix,
+    Leave,
+}
+
+/// Rule 12 for one open course, with the p that was read for it: strike the term if w
+/// exceeds b or it fires on the rest with a and b each less w (a not below 0); otherwise
+/// fix the course if it fires on the rest with a and b.
+pub fn deed(year: &Year, i: usize, j: usize, p: i64, trap: Trap) -> Deed {
+    let (w, (a, b)) = (year.courses[i].weight, range(year, j, p));
+    let rest = if trap == Trap::RestWithCourse { all_open(year, j) } else { rest(year, i, j) };
+    let with_a = if trap == Trap::ANotLowered { a } else { (a - w).max(0) };
+    if trap == Trap::FixBeforeStrike && fires(&rest, (a, b), trap) {
+        Deed::Fix
+    } else if w > b {
+        Deed::StrikeByWeight
+    } else if trap == Trap::NoTestOfTheRest {
+        Deed::Leave
+    } else if fires(&rest, (with_a, b - w), trap) {
+        Deed::StrikeByFiring
+    } else if fires(&rest, (a, b), trap) {
+        Deed::Fix
+    } else {
+        Deed::Leave
+    }
+}
+
+/// Rule 12: If p exceeds high credits, or it fires on all open courses: no plan. Then for
+/// each open course in rising number, everything re-read: strike, fix or leave it.
+pub fn rule_12(year: &mut Year, j: usize, trap: Trap) -> Step {
+    no_plan_if(unfillable(year, j, trap).is_some())?;
+    let p_before_any_course = small_p(year, j);
+    for i in open(year, j) {
+        let p = if trap == Trap::RangeByOldP { p_before_any_course } else { small_p(year, j) };
+        take_course(year, i, j, p, trap);
+    }
+    Ok(())
+}
+
+/// Does with an open course what rule 12 does with it; what that is.
+pub fn take_course(year: &mut Year, i: usize, j: usize, p: i64, trap: Trap) -> Deed {
+    let deed = deed(year, i, j, p, trap);
+    match deed {
+        Deed::StrikeByWeight | Deed::StrikeByFiring => strike(year, i, j),
+        Deed::Fix => fix(year, i, j),
+        Deed::Leave => {}
+    }
+    deed
+}
+
+// ---- Rule 11 ----
 
 /// Rule 11: If p exceeds high credits for some term, no plan. Let c be the largest high
 /// credits; with c = 0 stop here. If for some t the sum divided by c, rounded up,

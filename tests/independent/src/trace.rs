@@ -100,11 +100,11 @@ fn step_told(before: &Year, rule: u8, j: usize) -> Told {
     let found = run_step(&mut after, rule, j, Trap::None);
     let mut lines = numbers_read(before, rule, j);
     lines.extend(bounds_altered(&before.terms[j], &after.terms[j]));
-    if rule == 3 {
-        lines.extend(rule_3_told(before, j));
-    } else {
-        lines.extend(lists_altered(before, &after, j));
-    }
+    lines.extend(match rule {
+        3 => rule_3_told(before, j),
+        12 => rule_12_told(before, j),
+        _ => lists_altered(before, &after, j),
+    });
     let did = match found {
         Err(NoPlan) => Did::FindNoPlan,
         Ok(()) if after == *before => Did::Nothing,
@@ -148,6 +148,7 @@ fn numbers_read(year: &Year, rule: u8, j: usize) -> Vec<String> {
         }
         6..=9 => walk_told(year, rule, j),
         10 => rule_10_told(year, j, fixed, both),
+        12 => vec![range_told(year, j)],
         _ => rule_11_told(year, true),
     }
 }
@@ -324,6 +325,148 @@ fn end_told(walk: &Walk) -> String {
     format!("no course is left{misses}")
 }
 
+// ---- Rule 12 ----
+
+/// p and the range that it leaves; where p exceeds high credits, that.
+fn range_told(year: &Year, j: usize) -> String {
+    let p = small_p(year, j);
+    let Term { low_credits: low, high_credits: high, .. } = year.terms[j];
+    if p > high {
+        return format!("p {p} exceeds high credits {high}");
+    }
+    format!("p {p}, {}", range_less(low, high, p))
+}
+
+/// a and b from two numbers, each less a third; a is 0 if negative.
+fn range_less(low: i64, high: i64, less: i64) -> String {
+    let in_words = if low < less { ", so 0" } else { "" };
+    format!("a {low} - {less} = {}{in_words}, b {high} - {less} = {}", low - less, high - less)
+}
+
+/// Rule 12 behind the reading of its range: the test of all open courses, then course by
+/// course, from the year before it.
+fn rule_12_told(before: &Year, j: usize) -> Vec<String> {
+    let found = unfillable(before, j, Trap::None);
+    if found == Some(Unfillable::POverHighCredits) {
+        return vec![];
+    }
+    let set = all_open(before, j);
+    let head = format!("all open: {}", in_a_row(&set.weights));
+    let mut lines = test_told(head, &set, range(before, j, small_p(before, j)));
+    if found.is_none() {
+        let mut now = before.clone();
+        for i in open(before, j) {
+            lines.extend(course_of_rule_12_told(&mut now, i, j));
+        }
+    }
+    lines
+}
+
+/// Rule 12 with one open course: the tests that it comes to, and what is done.
+fn course_of_rule_12_told(now: &mut Year, i: usize, j: usize) -> Vec<String> {
+    let was = now.clone();
+    let name = course(&was, i);
+    let (p, w, rest) = (small_p(&was, j), was.courses[i].weight, rest(&was, i, j));
+    let (a, b) = range(&was, j, p);
+    let row = in_a_row(&rest.weights);
+    let with = || {
+        let head = format!("{name}, with it: {row}, {}", range_less(a, b, w));
+        test_told(head, &rest, ((a - w).max(0), b - w))
+    };
+    let without = || {
+        let head = format!("{name}, without it: {row}, a {a}, b {b}");
+        test_told(head, &rest, (a, b))
+    };
+    let deed = take_course(now, i, j, p, Trap::None);
+    let does = list_altered(&was, now, i, j);
+    match deed {
+        Deed::StrikeByWeight => vec![format!("{name}: {w} exceeds b {b}: {does}")],
+        Deed::StrikeByFiring => [with(), vec![format!("{name}: {does}")]].concat(),
+        Deed::Fix => {
+            let read_again = range_told(now, j);
+            [with(), without(), vec![format!("{name}: {does}"), read_again]].concat()
+        }
+        // Nothing weighs less than 0, so that nothing fires.
+        Deed::Leave if a == 0 => vec![format!("{name}: {w} within b {b}, a 0: leave it")],
+        Deed::Leave => [with(), without(), vec![format!("{name}: leave it")]].concat(),
+    }
+}
+
+/// Numbers as they come, one behind the other.
+fn in_a_row(numbers: &[i64]) -> String {
+    if numbers.is_empty() {
+        return "none".to_string();
+    }
+    numbers.iter().map(i64::to_string).collect::<Vec<_>>().join(" ")
+}
+
+/// Whether it fires on a set, k by k.
+fn test_told(head: String, set: &Weighed, (a, b): (i64, i64)) -> Vec<String> {
+    let tried = by_hand(set, (a, b));
+    let mut lines = vec![head];
+    lines.extend(tried.iter().map(|row| format!("  {}", row_told(set, (a, b), row))));
+    let verdict = if fires_by_hand(&tried) { "fires" } else { "does not fire" };
+    *lines.last_mut().expect("the head") += &format!(": {verdict}");
+    lines
+}
+
+/// A k that is tried by hand: with the most k' for which the k heaviest and the k' lightest
+/// weigh less than a, or with none where the k heaviest alone weigh as much.
+#[derive(Clone, Copy, Debug, PartialEq, Eq)]
+pub struct Tried {
+    pub k: usize,
+    pub k_prime: Option<usize>,
+    pub exceeds: bool,
+}
+
+/// How to see by hand whether it fires: of the k' for a k, the last that keeps below a has
+/// the heaviest k + 1 outside it. Once the k heaviest weigh a, no larger k helps; nothing
+/// weighs less than 0.
+pub fn by_hand(set: &Weighed, (a, b): (i64, i64)) -> Vec<Tried> {
+    let mut tried = vec![];
+    if a == 0 {
+        return tried;
+    }
+    for k in 0..set.size() {
+        let below = |&k_prime: &usize| set.heaviest(k) + set.lightest(k_prime) < a;
+        let k_prime = (0..set.size() - k).take_while(below).last();
+        let exceeds = k_prime.map_or(false, |k_prime| set.lightest_outside(k + 1, k_prime) > b);
+        tried.push(Tried { k, k_prime, exceeds });
+        if exceeds || k_prime.is_none() {
+            break;
+        }
+    }
+    tried
+}
+
+/// It fires by the last k that is tried.
+pub fn fires_by_hand(tried: &[Tried]) -> bool {
+    tried.last().map_or(false, |row| row.exceeds)
+}
+
+fn row_told(set: &Weighed, (a, b): (i64, i64), row: &Tried) -> String {
+    let (weights, k) = (&set.weights, row.k);
+    let heaviest: Vec<i64> = weights.iter().rev().take(k).copied().collect();
+    let k_prime = match row.k_prime {
+        Some(k_prime) => k_prime,
+        None => return format!("k {k}: {} is not below {a}", added(&heaviest)),
+    };
+    let below = added(&[&heaviest[..], &weights[..k_prime]].concat());
+    let above = added(&weights[k_prime..k_prime + k + 1]);
+    let beside = if row.exceeds { "exceeds" } else { "within" };
+    format!("k {k}, k' {k_prime}: {below} is below {a}; {above} {beside} {b}")
+}
+
+/// Numbers with their sum, as it is written down.
+fn added(numbers: &[i64]) -> String {
+    let sum: i64 = numbers.iter().sum();
+    if numbers.len() < 2 {
+        return sum.to_string();
+    }
+    let parts: Vec<String> = numbers.iter().map(i64::to_string).collect();
+    format!("{} = {sum}", parts.join(" + "))
+}
+
 // ---- Rule 11, with A2's thresholds ----
 
 /// Rule 11 with every threshold, though the short-cut would do without.
@@ -360,9 +503,7 @@ fn rule_11_told(year: &Year, short_cut: bool) -> Vec<String> {
 
 /// The sizes as they come: the open courses by number, then the terms.
 fn sizes_told(year: &Year, c: i64) -> Vec<String> {
-    let weights: Vec<String> = course_sizes(year).iter().map(i64::to_string).collect();
-    let weights = if weights.is_empty() { "none".to_string() } else { weights.join(" ") };
-    let mut lines = vec![format!("sizes of open courses: {weights}")];
+    let mut lines = vec![format!("sizes of open courses: {}", in_a_row(&course_sizes(year)))];
     for (j, size) in term_sizes(year, c).into_iter().enumerate() {
         let (high, p) = (year.terms[j].high_credits, small_p(year, j));
         lines.push(format!("size of term {j}: {c} - ({high} - {p}) = {size}"));

@@ -5,23 +5,28 @@ use std::collections::BTreeMap;
 
 use independent::compare::{self, Counts};
 use independent::filter::Answer;
-use independent::generate::Kind;
+use independent::generate::{Kind, KINDS};
 use independent::hours::Joined;
 use independent::planner::{Independent, Planner};
 use independent::plans;
 use independent::records;
-use independent::traps::{Trap, TRAPS, TRAPS_OF_A2};
+use independent::traps::{Trap, TRAPS, TRAPS_OF_A2, TRAPS_OF_A5};
 use independent::year::*;
 
 const RIGHT: Independent = Independent { trap: Trap::None };
 
 #[test]
 fn the_right_program_matches_itself_and_meets_every_outcome() {
-    let counts = match compare::run(&RIGHT, &RIGHT, 2_000, 1) {
-        Ok(counts) => counts,
-        Err(mismatch) => panic!("{mismatch}"),
-    };
-    for rule in [1, 2, 4, 5, 6, 7, 8, 9, 10, 11] {
+    let mut counts = Counts::default();
+    for kind in KINDS {
+        // On the large ones the program is slow.
+        let large = matches!(kind, Kind::Hidden | Kind::Spoilt | Kind::Edges);
+        let lists = if large { 400 } else { 2_000 };
+        if let Err(mismatch) = compare::run_kind(&RIGHT, &RIGHT, kind, 0..lists, 1, &mut counts) {
+            panic!("{mismatch}");
+        }
+    }
+    for rule in [1, 2, 4, 5, 6, 7, 8, 9, 10, 12, 11] {
         assert!(counts.seen(&format!("NOPLAN {rule:02}")) > 0, "no plan by rule {rule}");
     }
     for outcome in ["OPEN", "SETTLED", "plans counted"] {
@@ -35,6 +40,7 @@ fn the_right_program_matches_itself_and_meets_every_outcome() {
     }
     every_imbalance_is_met(&counts.by_kind["Placed"]);
     every_way_of_rule_11_is_met(&counts);
+    every_way_of_rule_12_is_met(&counts);
 }
 
 /// The lists made to be measured meet each refusal and, some dozen times each, both
@@ -67,6 +73,17 @@ fn every_way_of_rule_11_is_met(counts: &Counts) {
     assert!(only < by_a_threshold, "{only} of {by_a_threshold}");
 }
 
+/// Rule 12 ends lists in both ways, and in one way each; the gapped lists, made for it, meet
+/// some dozens that it ends by firing.
+fn every_way_of_rule_12_is_met(counts: &Counts) {
+    let by_p = counts.seen(compare::BY_P_OF_A_TERM);
+    let by_firing = counts.seen(compare::BY_FIRING);
+    assert!(by_p > 0 && by_firing > 0, "{by_p} by p, {by_firing} by firing");
+    assert_eq!(by_p + by_firing, counts.seen("NOPLAN 12"));
+    let seen = counts.by_kind["Gapped"].get(compare::BY_FIRING).copied().unwrap_or(0);
+    assert!(seen >= 50, "{seen}");
+}
+
 #[test]
 fn every_trap_is_found() {
     for trap in TRAPS {
@@ -85,6 +102,49 @@ fn traps_of_rule_11_are_found_by_crowded_lists() {
             let trapped = Independent { trap };
             let found = compare::run_kinds(&RIGHT, &trapped, &[Kind::Crowded], 300, seed);
             assert!(found.is_err(), "trap {trap:?} with seed {seed}");
+        }
+    }
+}
+
+/// The gapped lists alone find each trap of A5, from every seed, but for rule 12 behind rule
+/// 11: for that, rule 11 has to find no plan too, as in crowded lists.
+#[test]
+fn traps_of_rule_12_are_found_by_gapped_lists() {
+    for trap in TRAPS_OF_A5 {
+        let kind = if trap == Trap::AfterRule11 { Kind::Crowded } else { Kind::Gapped };
+        for seed in [1, 2, 3] {
+            let trapped = Independent { trap };
+            let found = compare::run_kinds(&RIGHT, &trapped, &[kind], 2_000, seed);
+            assert!(found.is_err(), "trap {trap:?} with seed {seed}");
+        }
+    }
+}
+
+/// With a not lowered, or with an old p, rule 12 loses plans. Two programs with the same trap
+/// are alike, and are found by the plans of small years, or by the hidden plan of a large
+/// one.
+#[test]
+fn ranges_of_rule_12_that_lose_plans() {
+    for trap in [Trap::ANotLowered, Trap::RangeByOldP] {
+        let trapped = Independent { trap };
+        for kind in [Kind::Gapped, Kind::Small, Kind::Hidden] {
+            let found = compare::run_kinds(&trapped, &trapped, &[kind], 1_000, 1);
+            let what = found.expect_err("plans are lost").what;
+            assert!(what.contains("plan"), "{trap:?}, {kind:?}: {what}");
+        }
+    }
+}
+
+/// The other traps of A5 fire too seldom or on what has no plan: they lose none, so that it
+/// takes a right program to find them.
+#[test]
+fn other_traps_of_rule_12_lose_no_plan() {
+    let loses = |trap: &Trap| matches!(trap, Trap::ANotLowered | Trap::RangeByOldP);
+    for trap in TRAPS_OF_A5.into_iter().filter(|trap| !loses(trap)) {
+        let trapped = Independent { trap };
+        let kinds = [Kind::Gapped, Kind::Small];
+        if let Err(mismatch) = compare::run_kinds(&trapped, &trapped, &kinds, 300, 1) {
+            panic!("{mismatch}");
         }
     }
 }

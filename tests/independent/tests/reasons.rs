@@ -3,6 +3,7 @@
 
 use std::collections::BTreeMap;
 
+use independent::filter::IN_ORDER;
 use independent::generate::years_with_few_placings;
 use independent::plans;
 use independent::reasons::Quantity::Credits;
@@ -12,7 +13,7 @@ use independent::rules::small_p;
 use independent::year::*;
 
 /// Years of each kind, and how often each rule must be seen to do each thing.
-const YEARS: u64 = 4_000;
+const YEARS: u64 = 3_000;
 const THREE_DOZEN: u64 = 36;
 
 /// Whether steps are told of a whole filtering or of a rule at a term, run alone.
@@ -49,7 +50,7 @@ fn every_step_by_all_placings() {
         seen.entry((told.step.rule, told.way)).or_default()[origin as usize] += 1;
     });
     assert!(steps >= 20_000, "{steps}");
-    for rule in 1..=11 {
+    for rule in IN_ORDER {
         for &way in ways(rule) {
             let [filtering, alone] = seen.remove(&(rule, way)).unwrap_or_default();
             let reached = (rule, way) != (8, Way::NotReaching);
@@ -113,14 +114,14 @@ fn is_found(told: &Told) -> bool {
 }
 
 /// Whatever class of facts is left out of the steps in which a rule does one thing, some year
-/// shows it. So it does where the bounds of a class are those of the wrong side (others' low
-/// credits for high ones in rule 2, low credits at a strike), and where rules 2 and 5 name the
-/// own bound.
+/// shows it, but for needless ones. So it does where the bounds of a class are those of the
+/// wrong side (others' low credits for high ones in rule 2, low credits at a strike), and where
+/// rules 2 and 5 name the own bound.
 #[test]
 fn every_gap_is_found() {
     for seed in [1, 2, 3] {
         let mut not_found: Vec<(u8, Way, Gap)> = vec![];
-        for rule in 1..=11 {
+        for rule in IN_ORDER {
             for &way in ways(rule) {
                 not_found.extend(Gap::all(rule, way).into_iter().map(|gap| (rule, way, gap)));
             }
@@ -132,6 +133,21 @@ fn every_gap_is_found() {
         });
         assert!(not_found.is_empty(), "seed {seed}: {not_found:?}");
     }
+}
+
+/// A step needs no fact of a needless class, nor the bounds of one to be of the right side: no
+/// placing of any year shows them missing.
+#[test]
+fn needless_classes_are_never_missed() {
+    let mut tried: BTreeMap<(u8, Way), u64> = BTreeMap::new();
+    each_step(1, &mut |_, told| {
+        for class in needless(told.step.rule, told.way) {
+            assert!(!is_found(&Gap::LeftOut(class).put_in(told)), "{class:?} of {}", told.step);
+            *tried.entry((told.step.rule, told.way)).or_default() += 1;
+        }
+    });
+    assert!(tried.values().all(|&tried| tried >= THREE_DOZEN), "{tried:?}");
+    assert_eq!(tried.len(), 2);
 }
 
 /// Every fact is of a class that is left out above.
@@ -146,21 +162,31 @@ fn every_fact_is_of_a_class() {
 }
 
 /// What rule 3 rests on is read anew for each course: facts read once for the term lack the
-/// course that was fixed just before.
+/// course that was fixed or struck just before. Rule 12 would do without reading them anew:
+/// what it struck or fixed before in the term follows from the same facts.
 #[test]
 fn facts_read_once_for_the_term_are_found() {
-    let mut found = 0;
+    let mut found: BTreeMap<(u8, Way), u64> = BTreeMap::new();
+    let mut stale_of_rule_12 = 0;
     each_run(1, &mut |_, run| {
-        for told in run.iter().filter(|told| told.step.rule == 3) {
+        for told in run.iter().filter(|told| matches!(told.step.rule, 3 | 12)) {
             let at_term = |step: &Step| (step.round, step.rule, step.term());
             let mut first = run.iter().filter(|first| at_term(&first.step) == at_term(&told.step));
             let once = &first.next().expect("the step itself").before;
             let mut stale = told.clone();
             stale.step.facts.retain(|fact| fact.holds(once));
-            found += is_found(&stale) as u64;
+            stale_of_rule_12 += (told.step.rule == 12 && stale != *told) as u64;
+            *found.entry((told.step.rule, told.way)).or_default() += is_found(&stale) as u64;
         }
     });
-    assert!(found >= THREE_DOZEN, "{found}");
+    for (&(rule, way), &found) in &found {
+        match rule {
+            3 => assert!(found >= THREE_DOZEN, "{way:?}: {found}"),
+            _ => assert_eq!(found, 0, "{way:?}"),
+        }
+    }
+    assert_eq!(found.len(), ways(3).len() + ways(12).len());
+    assert!(stale_of_rule_12 >= THREE_DOZEN, "{stale_of_rule_12}");
 }
 
 /// A step concludes what it altered and no more.
@@ -173,8 +199,8 @@ fn conclusions_that_go_too_far_are_found() {
             *known = *known || is_found(&far);
         }
     });
-    // Twelve ways of altering a bound, two conclusions each, and four of altering a list.
-    assert_eq!(found.len(), 28);
+    // Twelve ways of altering a bound, two conclusions each, and seven of altering a list.
+    assert_eq!(found.len(), 31);
     assert!(found.values().all(|&found| found), "{found:?}");
 }
 

@@ -2,13 +2,13 @@
 //! year gives, to the letter, and the page has a year for all that it has to show.
 
 use independent::compare::{ways_of_rule_11, ONLY_AT_A_TERM, ONLY_AT_HALF};
-use independent::filter::{filter, run_rule, years_before, Answer};
+use independent::filter::{filter, run_rule, years_before, Answer, IN_ORDER};
 use independent::generate::{small, Random};
 use independent::listing::{list_of, of_list, of_year, year_of};
 use independent::records::bytes;
 use independent::rules::*;
 use independent::trace::*;
-use independent::traps::Trap;
+use independent::traps::{Trap, TRAPS_OF_A2, TRAPS_OF_A5};
 use independent::year::*;
 
 const PAGE: &str = include_str!("../../../docs/RULES.md");
@@ -70,7 +70,7 @@ fn every_answer_is_the_one_of_filtering() {
 
 #[test]
 fn every_rule_has_a_year_on_which_it_alters() {
-    for rule in 1..=10 {
+    for rule in IN_ORDER.into_iter().filter(|&rule| rule != 11) {
         let years = years_traced(Kind::ByItself(rule));
         assert!(!years.is_empty(), "rule {rule}");
         for year in years {
@@ -114,12 +114,72 @@ fn rule_10_in_both_cases() {
     }
 }
 
-// ---- Rule 11's years, by computing ----
+// ---- Rules 11 and 12's years, by computing ----
 
-/// Rule 11 finds no plan in round 1, and rules 1 to 10 before it alter nothing.
-fn left_to_rule_11(year: &Year) -> bool {
-    filter(year, Trap::None).0 == Answer::NoPlan { rule: 11, round: 1 }
-        && years_before(year, 11) == [year.clone()]
+/// The rule finds no plan in round 1, and the rules before it alter nothing.
+fn left_to(rule: u8, year: &Year) -> bool {
+    filter(year, Trap::None).0 == Answer::NoPlan { rule, round: 1 }
+        && years_before(year, rule) == [year.clone()]
+}
+
+/// What rule 12 does with the courses of a year, term by term, but for those that it leaves.
+fn deeds(year: &Year) -> Vec<Deed> {
+    let mut now = year.clone();
+    let mut deeds = vec![];
+    for j in 0..year.terms.len() {
+        assert_eq!(unfillable(&now, j, Trap::None), None);
+        for i in open(&now, j) {
+            let p = small_p(&now, j);
+            deeds.push(take_course(&mut now, i, j, p, Trap::None));
+        }
+    }
+    deeds.retain(|&deed| deed != Deed::Leave);
+    deeds
+}
+
+#[test]
+fn rule_12_has_its_kinds_of_years() {
+    let years = years_traced(Kind::ByItself(12));
+    let (strike, fix, over) = (Deed::StrikeByFiring, Deed::Fix, Deed::StrikeByWeight);
+    let expected = [vec![strike], vec![fix], vec![fix, over, over]];
+    assert_eq!(years.iter().map(deeds).collect::<Vec<_>>(), expected);
+    let by_p = |year: &Year| after(12, year, Trap::RangeByOldP) != after(12, year, Trap::None);
+    assert_eq!(years.iter().map(by_p).collect::<Vec<_>>(), [false, true, true]);
+    let filtered = years_traced(Kind::Filtering);
+    let ended: Vec<&Year> = filtered.iter().filter(|year| left_to(12, year)).collect();
+    let at_term_0 = |year: &&Year| unfillable(year, 0, Trap::None);
+    let expected = [Some(Unfillable::FiresOnAllOpen), None];
+    assert_eq!(ended.iter().map(at_term_0).collect::<Vec<_>>(), expected);
+    // In the second both tests fire on a course.
+    assert_eq!(deed(ended[1], 1, 0, 0, Trap::None), Deed::StrikeByFiring);
+    assert_eq!(deed(ended[1], 1, 0, 0, Trap::FixBeforeStrike), Deed::Fix);
+}
+
+/// Each trap of rule 11 by A2 and of rule 12 alters what filtering makes of some year.
+#[test]
+fn traps_show_on_the_years() {
+    for trap in TRAPS_OF_A2.into_iter().chain(TRAPS_OF_A5) {
+        let shows = |year: &Year| filter(year, trap) != filter(year, Trap::None);
+        assert!(years_of(PAGE).iter().any(shows), "{trap:?}");
+    }
+}
+
+/// The page's test for one row and one range, with one k' for a k, is the paper's.
+#[test]
+fn the_test_by_hand_is_that_of_the_paper() {
+    let mut random = Random::new(13);
+    let mut fired = 0;
+    for _ in 0..20_000 {
+        let heaviest = random.from(1, 12);
+        let weights = (0..random.from(0, 8)).map(|_| random.from(1, heaviest)).collect();
+        let set = Weighed::of(weights);
+        let a = random.from(0, set.lightest(set.size()) + 2);
+        let b = a + random.from(0, 4);
+        let fires = fires(&set, (a, b), Trap::None);
+        assert_eq!(fires_by_hand(&by_hand(&set, (a, b))), fires, "{set:?}, {a} to {b}");
+        fired += fires as u32;
+    }
+    assert!(fired > 1_000, "{fired}");
 }
 
 /// Where rule 11 finds no plan in a year that is left to it: at one threshold alone.
@@ -138,7 +198,7 @@ fn only_at(year: &Year) -> &'static str {
 #[test]
 fn rule_11_has_its_kinds_of_years() {
     let filtered = years_traced(Kind::Filtering);
-    let left = filtered.iter().filter(|year| left_to_rule_11(year));
+    let left = filtered.iter().filter(|year| left_to(11, year));
     assert_eq!(left.map(only_at).collect::<Vec<_>>(), ["a course's size", "c/2", "a term's size"]);
     let within_in_the_table = |year: &&Year| {
         let c = largest_high_credits(year);
@@ -233,7 +293,7 @@ fn a_block_that_does_not_belong_is_found() {
         format!("{year}\nbetween\n{trace}"),
         format!("{year}\n{trace}\n{trace}"),
         format!("{year}\n{trace}\n```\nsome text\n```\n"),
-        format!("{year}\n```trace\nrule 12 by itself\n```\n"),
+        format!("{year}\n```trace\nrule 13 by itself\n```\n"),
         format!("{year}\n```trace\n```\n"),
         format!("{year}\n{}", trace.strip_suffix("```\n").unwrap()),
     ] {
@@ -316,7 +376,7 @@ fn bound<'a>(term: &'a mut Term, what: &str) -> &'a mut i64 {
 #[test]
 fn following_a_trace_leads_to_the_filtered_year() {
     let mut random = Random::new(11);
-    let mut no_plans = [0; 12];
+    let mut no_plans = [0; 13];
     for _ in 0..4_000 {
         let year = small(&mut random);
         let made = trace(&year, Kind::Filtering);
@@ -326,7 +386,7 @@ fn following_a_trace_leads_to_the_filtered_year() {
             Answer::NoPlan { rule, .. } => no_plans[rule as usize] += 1,
             _ => assert_eq!(follow(&year, &made), filtered, "{made}"),
         }
-        for rule in 1..=11 {
+        for rule in IN_ORDER {
             let mut now = year.clone();
             let made = trace(&year, Kind::ByItself(rule));
             match run_rule(&mut now, rule, Trap::None) {
@@ -336,7 +396,7 @@ fn following_a_trace_leads_to_the_filtered_year() {
         }
     }
     assert!(
-        [1, 2, 4, 5, 6, 7, 8, 9, 10, 11].iter().all(|&rule| no_plans[rule] > 0),
+        [1, 2, 4, 5, 6, 7, 8, 9, 10, 12, 11].iter().all(|&rule| no_plans[rule] > 0),
         "{no_plans:?}"
     );
 }

@@ -1,7 +1,7 @@
 //! The steps of a filtering and their facts (02, A7): they lead where filtering leads, the
 //! facts are those that A7 names, and some by hand.
 
-use independent::filter::{filter, run_step, Answer};
+use independent::filter::{filter, run_step, Answer, IN_ORDER};
 use independent::generate::{list, years_with_few_placings, Random, KINDS};
 use independent::reasons::Quantity::{Count, Credits};
 use independent::reasons::Side::{High, Low};
@@ -57,15 +57,16 @@ fn is_tighter(Told { before, step, .. }: &Told) {
     }
 }
 
-/// A step's place among those of its run: by round, rule and term; there raising before
-/// lowering, courses in rising number, a no plan last.
-fn place(step: &Step) -> (u32, u8, Option<usize>, usize) {
+/// A step's place among those of its run: by round, rule as a round runs them, and term; there
+/// raising before lowering, courses in rising number, a no plan last.
+fn place(step: &Step) -> (u32, Option<usize>, Option<usize>, usize) {
     let last = match step.altered {
         Altered::Bound { side, .. } => side as usize,
         Altered::ListByStrike { course, .. } | Altered::ListByFixing { course, .. } => course,
         Altered::Nothing { .. } => usize::MAX,
     };
-    (step.round, step.rule, step.term(), last)
+    let rule = IN_ORDER.iter().position(|&rule| rule == step.rule);
+    (step.round, rule, step.term(), last)
 }
 
 fn leads_where_filtering_leads(year: &Year) {
@@ -92,7 +93,7 @@ fn steps_lead_where_filtering_leads() {
 #[test]
 fn a_rule_alone_does_what_the_rule_does() {
     for year in years_with_few_placings(3, 300) {
-        for rule in 1..=11 {
+        for rule in IN_ORDER {
             for j in terms_of(rule, &year) {
                 let below_0 = spares(&year, j).into_iter().any(|spare| spare < 0);
                 if (6..=9).contains(&rule) && below_0 {
@@ -141,6 +142,7 @@ fn is_named(fact: &Fact, told: &Told) -> bool {
         (1 | 3 | 4 | 10, Fact::In { term, .. }) => is_own(term) && by_the_fixed(told.way),
         (1 | 3 | 4 | 10, Fact::NotIn { term, .. }) => is_own(term) && !by_the_fixed(told.way),
         (6..=9, Fact::NotIn { .. }) | (11, Fact::In { .. }) => true,
+        (12, Fact::In { term, .. } | Fact::NotIn { term, .. }) => is_own(term),
         (_, Fact::In { .. } | Fact::NotIn { .. }) => false,
         (rule, Fact::Bound { term, quantity, side, .. }) => {
             let named = bounds_named(rule, told.way, is_own(term));
@@ -168,6 +170,7 @@ fn bounds_named(rule: u8, way: Way, own: bool) -> Vec<(Quantity, Side)> {
         (8, true) => vec![(Count, Low)],
         (9, true) => vec![(Count, High)],
         (11, false) => vec![(Credits, High)],
+        (12, true) => vec![(Credits, Low), (Credits, High)],
         _ => vec![],
     };
     if own && matches!(way, Way::CrossingByRaising | Way::CrossingByLowering) {
@@ -227,6 +230,9 @@ rule 7, round 1, term 0: high count 1
 rule 7, round 1, term 1: high count 2
   term 0: count at least 1
   term 1: credits at most 6
+rule 12, round 1, term 0: course 2 struck, 1
+  term 0: credits at least 3
+  term 0: credits at most 4
 ";
 
 #[test]
@@ -235,7 +241,7 @@ fn the_steps_of_year_e() {
     assert_eq!(in_words(&told_filtering(&year_e)), STEPS_OF_YEAR_E);
 }
 
-const STEPS_TO_RULE_11: &str = "\
+const STEPS_TO_RULE_12: &str = "\
 rule 1, round 1, term 1: high credits 5
   course 0 not in term 1
   course 1 not in term 1
@@ -280,13 +286,12 @@ rule 10, round 1, term 3: course 0 struck, 0
   term 3: count at most 0
 rule 10, round 1, term 3: course 1 struck, 0
   term 3: count at most 0
-rule 11, round 1: no plan
+rule 12, round 1, term 0: no plan
   course 0 in term 0
   course 1 in term 0
+  course 2 not in term 0
+  term 0: credits at least 3
   term 0: credits at most 3
-  term 1: credits at most 5
-  term 2: credits at most 5
-  term 3: credits at most 0
 ";
 
 /// Before rule 10 no list is altered, so that the walks have these pairs alike.
@@ -300,11 +305,77 @@ const PAIRS: &str = "  course 0 not in term 1
 
 /// Two courses come into one term by rule 10's strikes and are too many credits for it.
 #[test]
-fn the_steps_to_a_no_plan_of_rule_11() {
+fn the_steps_to_a_no_plan_of_rule_12() {
     let wide = [0, 30, 0, 5];
     let terms = [[0, 4, 0, 5], wide, wide, [0, 30, 0, 0]];
     let run = told_filtering(&year(&terms, &[(3, 0b1001), (3, 0b1001), (5, 0b0110)]));
-    assert_eq!(in_words(&run), STEPS_TO_RULE_11.replace("PAIRS", PAIRS));
+    assert_eq!(in_words(&run), STEPS_TO_RULE_12.replace("PAIRS", PAIRS));
+}
+
+const LAST_STEPS_TO_RULE_11: &str = "\
+rule 10, round 1, term 2: course 2 struck, 1
+  term 2: count at most 0
+rule 12, round 1, term 1: course 0 struck, 0
+  course 2 in term 1
+  term 1: credits at least 1
+  term 1: credits at most 4
+rule 12, round 1, term 1: course 1 struck, 0
+  course 0 not in term 1
+  course 2 in term 1
+  term 1: credits at least 1
+  term 1: credits at most 4
+rule 11, round 1: no plan
+  course 0 in term 0
+  course 1 in term 0
+  course 2 in term 1
+  term 0: credits at most 4
+  term 1: credits at most 4
+  term 2: credits at most 0
+";
+
+/// Two courses come into a term by rule 12's strikes, after rule 12 has passed the term, and are
+/// too many credits for it.
+#[test]
+fn the_last_steps_to_a_no_plan_of_rule_11() {
+    let terms = [[0, 7, 0, 2], [0, 4, 0, 2], [0, 1, 0, 0]];
+    let run = told_filtering(&year(&terms, &[(4, 0b011), (4, 0b011), (1, 0b110)]));
+    let last = run.iter().position(|told| told.step.rule == 10).expect("rule 10 strikes");
+    assert_eq!(in_words(&run[last..]), LAST_STEPS_TO_RULE_11);
+}
+
+/// Rule 12 fixes a course, which leaves no room for the others. Course 3 is not of the term.
+#[test]
+fn the_steps_of_rule_12() {
+    let courses = [(3, 3), (2, 3), (2, 3), (5, 2)];
+    let year = year(&[[3, 3, 0, 3], [0, 9, 0, 3]], &courses);
+    let expected = "\
+course 0 fixed, 0
+  course 3 not in term 0
+CREDITS
+course 1 struck, 1
+  course 0 in term 0
+  course 3 not in term 0
+CREDITS
+course 2 struck, 1
+  course 0 in term 0
+  course 1 not in term 0
+  course 3 not in term 0
+CREDITS
+";
+    let credits = "  term 0: credits at least 3\n  term 0: credits at most 3";
+    assert_eq!(at_term_0(&year, 12), expected.replace("CREDITS", credits));
+}
+
+/// Rule 12 fires on all open courses of term 0, which rules 1 to 10 leave alone.
+#[test]
+fn the_step_of_rule_12_that_fires_on_all_open() {
+    let year = year(&[[5, 5, 2, 2]; 2], &[(3, 3), (3, 3), (3, 3), (1, 3)]);
+    let expected = "\
+rule 12, round 1, term 0: no plan
+  term 0: credits at least 5
+  term 0: credits at most 5
+";
+    assert_eq!(in_words(&told_filtering(&year)), expected);
 }
 
 /// The steps of a rule alone at term 0, without the name of each step.

@@ -37,9 +37,10 @@ fn records_read_and_written() {
     assert_eq!(out[80..], [0xA5; 10]);
 }
 
+/// By 02, A5 it ends in "C 2 2 1", and every other line is 01's.
 #[test]
 fn listing() {
-    let expected = "OPEN 2\nT 0 3 4 1 1\nT 1 5 6 2 2\nC 0 4 0,1\nC 1 3 0,1\nC 2 2 0,1\n";
+    let expected = "OPEN 2\nT 0 3 4 1 1\nT 1 5 6 2 2\nC 0 4 0,1\nC 1 3 0,1\nC 2 2 1\n";
     assert_eq!(of_list(&records_of_e(), Trap::None), expected);
 }
 

@@ -11,7 +11,8 @@ use Rattle.rules.specs.Step.{overTo}
 use Rattle.frame.specs.State.{held, stepIn}
 use Rattle.rules.specs.Lists.{rule10}
 use Rattle.frame.specs.declared.State.{State}
-use Rattle.lists.proofs.OverLaws.{TermTurn, fits-10, turn-10, ends}
+use Rattle.frame.proofs.TermsAt.{ends}
+use Rattle.lists.proofs.OverLaws.{TermTurn, fits-10, turn-10}
 use Rattle.lists.proofs.rule_10.Statement.{statement}
 use Rattle.lists.proofs.rule_10.Tie as tie
 

@@ -8,7 +8,8 @@ use Rattle.theory.specs.Fold.{fold}
 use Rattle.rules.specs.Step.{overTo}
 use Rattle.frame.specs.State.{held, stepIn}
 use Rattle.rules.specs.Lists.{rule3}
-use Rattle.lists.proofs.OverLaws.{no-plan-stays, TermTurn, fits-3, turn-3}
+use Rattle.frame.proofs.TermsAt.{no-plan-stays}
+use Rattle.lists.proofs.OverLaws.{TermTurn, fits-3, turn-3}
 use Rattle.lists.proofs.rule_3.Statement.{statement}
 use Rattle.lists.proofs.rule_3.Tie as tie
 

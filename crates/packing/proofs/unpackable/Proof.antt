@@ -12,7 +12,8 @@ use Rattle.frame.specs.State.{yearIn}
 use Rattle.year.proofs.SumLaws.{sums-long}
 use Rattle.orders.proofs.OrderLaws.{OrderFits, up-fits}
 use Rattle.packing.specs.Sizes.{sizeIn, usedIn, over}
-use Rattle.packing.specs.Thresholds.{Rising, lastWeight}
+use Rattle.orders.specs.Orders.{lastWeight}
+use Rattle.packing.specs.Thresholds.{Rising}
 use Rattle.packing.proofs.ArrayLaws.{take-first}
 use Rattle.packing.proofs.RisingLaws.{rising-sizes, last-most}
 use Rattle.packing.proofs.StateLaws.{room-most, bursting-is, settled-is, empty-is, over-is}

@@ -2,15 +2,16 @@
 //! and prints them in markdown. Arguments: years to try for each (default 200,000)
 //! and a seed (default 1).
 
-use independent::compare::{hex, ways_of_rule_11, BY_P};
+use independent::compare::{hex, way_of_rule_12, ways_of_rule_11, BY_FIRING, BY_P, BY_P_OF_A_TERM};
 use independent::filter::{filter, filter_by, run_rule, run_step, Answer, IN_ORDER};
-use independent::generate::{crowded, small, spoil, Random};
+use independent::generate::{crowded, gapped, small, spoil, Random};
 use independent::listing::{of_answer, terms_with_commas};
 use independent::plans;
+use independent::reasons::{told_filtering, Way};
 use independent::records::bytes;
 use independent::rules;
 use independent::shrink::{measure, shrink};
-use independent::traps::{Trap, TRAPS_OF_A2};
+use independent::traps::{Trap, TRAPS_OF_A2, TRAPS_OF_A5};
 use independent::year::*;
 
 /// What an example is for, and whether a year shows it.
@@ -19,6 +20,8 @@ struct Wanted {
     /// Other rules or another order of them, whose listing is shown beside the right one.
     others: Vec<Vec<u8>>,
     trap: Trap,
+    /// What some of the years that are tried are made by.
+    maker: fn(&mut Random) -> Year,
     shows: Box<dyn Fn(&Year) -> bool>,
 }
 
@@ -44,13 +47,16 @@ fn main() {
 /// In the order of the page; the place of each is part of its seed.
 fn all_wanted() -> Vec<Wanted> {
     let mut all: Vec<Wanted> = [1, 2].into_iter().map(no_plan_by).collect();
-    all.extend([true, false].map(rule_3_that));
+    all.extend([true, false].map(|strikes| rule_that(3, strikes)));
     all.extend((4..=10).map(no_plan_by));
-    all.extend([true, false].map(rule_10_that));
+    all.extend([true, false].map(|strikes| rule_that(10, strikes)));
     all.extend([true, false].map(no_plan_by_rule_11));
     all.push(trap_1());
     all.push(trap_1_by_orders());
-    all.extend(other_traps());
+    all.extend(other_traps_of_01_and_a2());
+    all.extend([BY_FIRING, BY_P_OF_A_TERM].map(no_plan_by_rule_12));
+    all.extend([Way::StrikeByWeight, Way::StrikeByFiring, Way::Fixing].map(rule_12_that));
+    all.extend(traps_of_a5());
     all
 }
 
@@ -59,28 +65,25 @@ fn no_plan_by(rule: u8) -> Wanted {
         title: format!("Rule {rule} finds no plan"),
         others: vec![],
         trap: Trap::None,
+        maker: small,
         shows: Box::new(move |year| finds_no_plan(year, rule)),
     }
 }
 
-fn rule_3_that(strikes: bool) -> Wanted {
+/// Rule 3 or 10.
+fn rule_that(rule: u8, strikes: bool) -> Wanted {
     Wanted {
-        title: format!("Rule 3 {}, and the answer differs without rule 3", verb(strikes)),
-        others: vec![all_but(3)],
+        title: format!(
+            "Rule {rule} {}, and without rule {rule} the listing differs",
+            verb(strikes)
+        ),
+        others: vec![all_but(rule)],
         trap: Trap::None,
-        shows: Box::new(move |year| word_needs(year, 3) && does(year, 3) == (strikes, !strikes)),
-    }
-}
-
-fn rule_10_that(strikes: bool) -> Wanted {
-    Wanted {
-        title: format!("Rule 10 {}, and without rule 10 the listing differs", verb(strikes)),
-        others: vec![all_but(10)],
-        trap: Trap::None,
+        maker: small,
         shows: Box::new(move |year| {
             !is_no_plan(year)
-                && does(year, 10) == (strikes, !strikes)
-                && filter(year, Trap::None) != without(year, 10)
+                && does(year, rule) == (strikes, !strikes)
+                && filter(year, Trap::None) != without(year, rule)
         }),
     }
 }
@@ -99,8 +102,39 @@ fn no_plan_by_rule_11(by_p: bool) -> Wanted {
         title: format!("Rule 11 finds no plan by {by}"),
         others: vec![],
         trap: Trap::None,
+        maker: small_crowded,
         shows: Box::new(move |year| {
             finds_no_plan(year, 11) && ways_of_rule_11(year).contains(&BY_P) == by_p
+        }),
+    }
+}
+
+fn no_plan_by_rule_12(by: &'static str) -> Wanted {
+    let (_, in_words) = by.split_once(" by ").expect("a way of rule 12");
+    Wanted {
+        title: format!("Rule 12 finds no plan by {in_words}"),
+        others: vec![all_but(12)],
+        trap: Trap::None,
+        maker: small_gapped,
+        shows: Box::new(move |year| finds_no_plan(year, 12) && way_of_rule_12(year) == Some(by)),
+    }
+}
+
+fn rule_12_that(does: Way) -> Wanted {
+    let in_words = match does {
+        Way::StrikeByWeight => "strikes a course that exceeds b",
+        Way::StrikeByFiring => "strikes by firing on the rest",
+        _ => "fixes by firing on the rest",
+    };
+    Wanted {
+        title: format!("Rule 12 {in_words}, and without rule 12 the listing differs"),
+        others: vec![all_but(12)],
+        trap: Trap::None,
+        maker: small_gapped,
+        shows: Box::new(move |year| {
+            !is_no_plan(year)
+                && filter(year, Trap::None) != without(year, 12)
+                && ways_of(year, 12) == [does]
         }),
     }
 }
@@ -110,6 +144,7 @@ fn trap_1() -> Wanted {
         title: "Trap 1: rule 6 on a year that rule 4 has not passed".into(),
         others: vec![],
         trap: Trap::SpareBelowZero,
+        maker: small,
         shows: Box::new(|year| {
             finds_no_plan(year, 4) && shows_trap(year, Trap::SpareBelowZero) && spare_slips(year)
         }),
@@ -117,13 +152,14 @@ fn trap_1() -> Wanted {
 }
 
 fn trap_1_by_orders() -> Wanted {
-    let exchanged = vec![1, 2, 3, 6, 5, 4, 7, 8, 9, 10, 11];
-    let behind = vec![1, 2, 3, 6, 4, 5, 7, 8, 9, 10, 11];
+    let exchanged = vec![1, 2, 3, 6, 5, 4, 7, 8, 9, 10, 12, 11];
+    let behind = vec![1, 2, 3, 6, 4, 5, 7, 8, 9, 10, 12, 11];
     let orders = vec![exchanged, behind];
     Wanted {
         title: "Trap 1 again, with rules 4 and 6 in other orders".into(),
         others: orders.clone(),
         trap: Trap::SpareBelowZero,
+        maker: small,
         shows: Box::new(move |year| {
             let right = filter(year, Trap::None);
             shows_trap(year, Trap::SpareBelowZero)
@@ -132,11 +168,19 @@ fn trap_1_by_orders() -> Wanted {
     }
 }
 
-fn other_traps() -> Vec<Wanted> {
-    let wanted = |(title, trap, how): (&str, Trap, Differs)| {
-        let shows = move |year: &Year| differs(filter(year, Trap::None), filter(year, trap), how);
-        Wanted { title: title.into(), others: vec![], trap, shows: Box::new(shows) }
+/// A trap, with what it does and how far its answer must be from the right one.
+fn trapped((title, trap, how): (&str, Trap, Differs)) -> Wanted {
+    let maker = match trap {
+        Trap::RoundDown => small_crowded,
+        _ if TRAPS_OF_A2.contains(&trap) => small_crowded,
+        _ if TRAPS_OF_A5.contains(&trap) => small_gapped,
+        _ => small,
     };
+    let shows = move |year: &Year| differs(filter(year, Trap::None), filter(year, trap), how);
+    Wanted { title: title.into(), others: vec![], trap, maker, shows: Box::new(shows) }
+}
+
+fn other_traps_of_01_and_a2() -> Vec<Wanted> {
     let traps = [
         (
             "Trap 2: a course taken without charging every other term",
@@ -160,18 +204,41 @@ fn other_traps() -> Vec<Wanted> {
         ),
         ("Trap 9: sizes above c/2 tried in rule 11", Trap::SizesAboveHalf, Differs::Word),
     ];
-    traps.into_iter().map(wanted).collect()
+    traps.into_iter().map(trapped).collect()
+}
+
+fn traps_of_a5() -> Vec<Wanted> {
+    let traps = [
+        (
+            "Trap 10: k + k' + 1 below the size of the set in rule 12",
+            Trap::SizeNotReached,
+            Differs::Any,
+        ),
+        (
+            "Trap 11: the k + 1 lightest of all in rule 12, not outside those k'",
+            Trap::LightestOfAll,
+            Differs::Any,
+        ),
+        ("Trap 12: a not lowered by w in rule 12", Trap::ANotLowered, Differs::Word),
+        ("Trap 13: the rest with the course in it in rule 12", Trap::RestWithCourse, Differs::Any),
+        ("Trap 14: fixing tested before striking in rule 12", Trap::FixBeforeStrike, Differs::Any),
+        ("Trap 15: p read once for the term in rule 12", Trap::RangeByOldP, Differs::Word),
+        ("Trap 16: rule 12 behind rule 11", Trap::AfterRule11, Differs::Rule),
+        ("Trap 17: rule 12 with no test of the rest", Trap::NoTestOfTheRest, Differs::Any),
+    ];
+    traps.into_iter().map(trapped).collect()
 }
 
 // ---- What a year shows ----
 
 /// How far the trapped answer must be from the right one: in the first word of the
-/// listing; or in the rule that finds no plan; or in the filtered year.
+/// listing; or in the rule that finds no plan; or in the filtered year; or in anything.
 #[derive(Clone, Copy)]
 enum Differs {
     Word,
     Rule,
     Year,
+    Any,
 }
 
 fn differs(right: (Answer, Year), wrong: (Answer, Year), how: Differs) -> bool {
@@ -182,6 +249,7 @@ fn differs(right: (Answer, Year), wrong: (Answer, Year), how: Differs) -> bool {
             _ => false,
         },
         Differs::Year => word(right.0) == word(wrong.0) && right.1 != wrong.1,
+        Differs::Any => right != wrong,
     }
 }
 
@@ -204,11 +272,6 @@ fn word(answer: Answer) -> &'static str {
     }
 }
 
-/// Without the rule, the first word of the listing differs.
-fn word_needs(year: &Year, rule: u8) -> bool {
-    word(filter(year, Trap::None).0) != word(without(year, rule).0)
-}
-
 /// Filtering with one rule left out.
 fn without(year: &Year, rule: u8) -> (Answer, Year) {
     filter_by(year, &all_but(rule), Trap::None)
@@ -216,7 +279,7 @@ fn without(year: &Year, rule: u8) -> (Answer, Year) {
 
 /// The rules that come before one.
 fn all_before(rule: u8) -> Vec<u8> {
-    IN_ORDER.into_iter().filter(|&other| other < rule).collect()
+    IN_ORDER.into_iter().take_while(|&other| other != rule).collect()
 }
 
 /// The rules in order, one left out.
@@ -259,6 +322,15 @@ fn does(year: &Year, rule: u8) -> (bool, bool) {
     (strikes, fixes)
 }
 
+/// What a rule does in a filtering, each thing once.
+fn ways_of(year: &Year, rule: u8) -> Vec<Way> {
+    let steps = told_filtering(year).into_iter().filter(|told| told.step.rule == rule);
+    let mut ways: Vec<Way> = steps.map(|told| told.way).collect();
+    ways.sort();
+    ways.dedup();
+    ways
+}
+
 /// Without rule 4, rule 6 of round 1 goes through on a year with a spare below 0,
 /// and would not have gone through had the test been for 0 or less.
 fn spare_slips(year: &Year) -> bool {
@@ -299,15 +371,13 @@ fn smallest(wanted: &Wanted, tries: u64, seed: u64) -> Option<Year> {
     let mut random = Random::new(seed);
     let mut best: Option<Year> = None;
     let mut found_so_far = 0;
-    let of_a2 = TRAPS_OF_A2.contains(&wanted.trap);
     for attempt in 0..tries {
         if found_so_far == ENOUGH {
             break;
         }
         let year = match &best {
             Some(best) if attempt % 3 == 0 => near(&mut random, best),
-            _ if attempt % 4 == 0 && of_a2 => small_crowded(&mut random),
-            _ if attempt % 4 == 0 => small(&mut random),
+            _ if attempt % 4 == 0 => (wanted.maker)(&mut random),
             _ => tiny(&mut random),
         };
         if (wanted.shows)(&year) {
@@ -353,6 +423,25 @@ fn small_crowded(random: &mut Random) -> Year {
     loop {
         let year = crowded(random);
         if year.terms.len() <= 4 && rules::largest_high_credits(&year) <= 21 {
+            return year;
+        }
+    }
+}
+
+/// A gapped year of few terms and courses and small numbers, or at times a small one.
+fn small_gapped(random: &mut Random) -> Year {
+    if random.percent(30) {
+        return small(random);
+    }
+    loop {
+        let mut year = gapped(random);
+        if year.courses.len() <= 8 && year.courses.iter().all(|course| course.weight <= 12) {
+            // Wide bounds take long to shrink.
+            let (credits, count) = (rules::all_credits(&year), rules::all_courses(&year));
+            year.terms.iter_mut().for_each(|term| {
+                term.high_credits = term.high_credits.min(credits.max(term.low_credits));
+                term.high_count = term.high_count.min(count.max(term.low_count));
+            });
             return year;
         }
     }

@@ -19,9 +19,11 @@ pub enum FewKind {
     Counted,
     Skipping,
     Closing,
+    Gapped,
+    Returning,
 }
 
-const FEW_KINDS: [FewKind; 8] = [
+const FEW_KINDS: [FewKind; 10] = [
     FewKind::Small,
     FewKind::Near,
     FewKind::Crowded,
@@ -30,6 +32,8 @@ const FEW_KINDS: [FewKind; 8] = [
     FewKind::Counted,
     FewKind::Skipping,
     FewKind::Closing,
+    FewKind::Gapped,
+    FewKind::Returning,
 ];
 
 /// So many years of each kind, from a seed.
@@ -50,6 +54,8 @@ fn few_placings(kind: FewKind, random: &mut Random) -> Year {
             FewKind::Counted => summing(random, Quantity::Count),
             FewKind::Skipping => skipping(random),
             FewKind::Closing => closing(random),
+            FewKind::Gapped => gapped(random),
+            FewKind::Returning => returning(random),
         };
         if placings(&year) <= FEW_PLACINGS {
             return year;
@@ -135,7 +141,7 @@ fn skipping(random: &mut Random) -> Year {
 /// Two courses list a term that fits either of them and not both, and a last term that is
 /// closed by its high count. A third course lists two terms more, so that rules 1 to 9 see
 /// room in each. By rule 10 both courses come into the one term: as the terms are ordered,
-/// its count is then too high for rule 10, or its credits are for rule 11.
+/// its count is then too high for rule 10, or its credits are for rule 12.
 fn closing(random: &mut Random) -> Year {
     let (first, second) = (random.from(2, 9), random.from(2, 9));
     let either = random.from(first.max(second), first + second - 1);
@@ -148,6 +154,29 @@ fn closing(random: &mut Random) -> Year {
     year.terms[order[1]].high_count = 0;
     let courses = [(first, listing(0, 1)), (second, listing(0, 1)), (third, listing(2, 3))];
     for (weight, list) in courses {
+        year.courses.insert(random.below(year.courses.len() + 1), Course { weight, list });
+    }
+    if random.percent(30) {
+        spoil(random, &mut year);
+    }
+    year
+}
+
+/// Two courses list a first term that fits either of them and not both, and a second. A
+/// light course comes into the second by rule 10, as its other term is closed by its high
+/// count. Neither of the two fits beside it: rule 12 strikes both from the second term, when
+/// it has passed the first, so that rule 11 finds the first term's p over its high credits.
+fn returning(random: &mut Random) -> Year {
+    let light = random.from(1, 5);
+    let base = random.from(2, 9);
+    let weights = [base, base].map(|weight| weight + random.from(0, light - 1));
+    let (least, most) = (weights[0].min(weights[1]), weights[0].max(weights[1]));
+    let wide = Term { low_credits: 0, high_credits: 30, low_count: 0, high_count: 5 };
+    let mut year = Year { terms: vec![wide; 3], courses: vec![] };
+    year.terms[0].high_credits = random.from(most, weights[0] + weights[1] - 1);
+    year.terms[1].high_credits = random.from(most, least + light - 1);
+    year.terms[2].high_count = 0;
+    for (weight, list) in [(weights[0], 0b011), (weights[1], 0b011), (light, 0b110)] {
         year.courses.insert(random.below(year.courses.len() + 1), Course { weight, list });
     }
     if random.percent(30) {

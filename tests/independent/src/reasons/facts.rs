@@ -55,3 +55,9 @@ pub fn all_fixed_and_high_credits(year: &Year) -> Vec<Fact> {
     let fixed = terms.clone().flat_map(|j| fixed_in(year, j));
     fixed.chain(terms.map(|j| Fact::of_bound(year, j, Credits, High))).collect()
 }
+
+/// "The unlisted and fixed pairs of j and both its credit bounds."
+pub fn pairs_and_credits(year: &Year, j: usize) -> Vec<Fact> {
+    let bounds = [Low, High].map(|side| Fact::of_bound(year, j, Credits, side));
+    [fixed_in(year, j), not_listing(year, j), bounds.to_vec()].concat()
+}

@@ -15,8 +15,8 @@ pub enum Class {
     UnlistedElsewhere,
     /// A bound of every other term; under rule 11, of every term.
     Others,
-    /// The bound of the step's term that the rule uses.
-    Own,
+    /// The bound of the step's term that the rule uses, of this side; rule 12 uses both.
+    Own(Side),
     /// The bound crossed.
     Crossed,
 }
@@ -35,7 +35,7 @@ impl Class {
                 if crossed && quantity == altered_by(told.step.rule) {
                     Crossed
                 } else {
-                    Own
+                    Own(side)
                 }
             }
         }
@@ -45,7 +45,7 @@ impl Class {
     pub fn is_of_bounds(self) -> bool {
         match self {
             Fixed | Unlisted | UnlistedElsewhere => false,
-            Others | Own | Crossed => true,
+            Others | Own(_) | Crossed => true,
         }
     }
 }
@@ -57,9 +57,9 @@ impl Way {
             Way::CrossingByRaising => Some(Side::High),
             Way::CrossingByLowering => Some(Side::Low),
             Way::Raising | Way::Lowering | Way::Negative | Way::NotReaching => None,
-            Way::Strike | Way::Fixing => None,
+            Way::Strike | Way::StrikeByWeight | Way::StrikeByFiring | Way::Fixing => None,
             Way::FixedExceedsHighCount | Way::FixedPlusOpenBelowLowCount => None,
-            Way::POverHighCredits | Way::QuotientOverTerms => None,
+            Way::POverHighCredits | Way::QuotientOverTerms | Way::FiresOnAllOpen => None,
         }
     }
 }
@@ -77,18 +77,29 @@ fn altered_by(rule: u8) -> Quantity {
 pub fn classes(rule: u8, way: Way) -> Vec<Class> {
     let mut classes = match (rule, way) {
         (2 | 5, _) => vec![Others],
-        (6..=9, _) => vec![Unlisted, UnlistedElsewhere, Others, Own],
+        (6..=9, _) => {
+            let side = if matches!(rule, 6 | 8) { Side::Low } else { Side::High };
+            vec![Unlisted, UnlistedElsewhere, Others, Own(side)]
+        }
         (11, _) => vec![Fixed, Others],
+        (12, _) => vec![Fixed, Unlisted, Own(Side::Low), Own(Side::High)],
         (_, Way::Raising | Way::CrossingByRaising) => vec![Fixed],
         (_, Way::Lowering | Way::CrossingByLowering) => vec![Unlisted],
-        (_, Way::Strike | Way::FixedExceedsHighCount) => vec![Fixed, Own],
-        (_, Way::Fixing | Way::FixedPlusOpenBelowLowCount) => vec![Unlisted, Own],
-        (_, Way::Negative | Way::NotReaching | Way::POverHighCredits | Way::QuotientOverTerms) => {
-            panic!("rule {rule} has no step by {way:?}")
-        }
+        (_, Way::Strike | Way::FixedExceedsHighCount) => vec![Fixed, Own(Side::High)],
+        (_, Way::Fixing | Way::FixedPlusOpenBelowLowCount) => vec![Unlisted, Own(Side::Low)],
+        _ => panic!("rule {rule} has no step by {way:?}"),
     };
     classes.extend(way.crosses().map(|_| Crossed));
     classes
+}
+
+/// The classes that A7 lists although the step would follow without them: where rule 12 only
+/// compares what is fixed with high credits, as rules 3 and 11 do.
+pub fn needless(rule: u8, way: Way) -> Vec<Class> {
+    match (rule, way) {
+        (12, Way::StrikeByWeight | Way::POverHighCredits) => vec![Unlisted, Own(Side::Low)],
+        _ => vec![],
+    }
 }
 
 /// What can be amiss with the facts of a step.
@@ -102,9 +113,10 @@ pub enum Gap {
 }
 
 impl Gap {
-    /// The gaps that the facts of a rule's steps of one way can have.
+    /// The gaps that the facts of a rule's steps of one way can have, needless ones left out.
     pub fn all(rule: u8, way: Way) -> Vec<Gap> {
-        let classes = classes(rule, way);
+        let mut classes = classes(rule, way);
+        classes.retain(|class| !needless(rule, way).contains(class));
         let bounds = classes.iter().copied().filter(|class| class.is_of_bounds());
         let opposite = bounds.map(Gap::OppositeSide);
         let mut gaps: Vec<Gap> =

@@ -60,7 +60,7 @@ impl Telling {
         Telling { now: year.clone(), round: 0, rule: 0, told: vec![] }
     }
 
-    /// Rules 1 to 10 each over terms 0, 1, 2 and so on, rule 11 once for the year.
+    /// Rules 1 to 10 and 12 each over terms 0, 1, 2 and so on, rule 11 once for the year.
     fn run_round(&mut self) -> Run {
         for rule in IN_ORDER {
             terms_of(rule, &self.now).try_for_each(|j| self.run_at(rule, j))?;
@@ -79,7 +79,8 @@ impl Telling {
             6..=9 => self.walk(j),
             10 => self.rule_10(j),
             11 => self.rule_11(),
-            _ => panic!("the rules are 1 to 11"),
+            12 => self.rule_12(j),
+            _ => panic!("the rules are 1 to 12"),
         }
     }
 
@@ -125,9 +126,9 @@ impl Telling {
         Ok(())
     }
 
-    fn strike(&mut self, i: usize, j: usize, facts: Vec<Fact>) {
+    fn strike(&mut self, way: Way, i: usize, j: usize, facts: Vec<Fact>) {
         let left = self.now.courses[i].list & !(1 << j);
-        self.tell(Way::Strike, Altered::ListByStrike { course: i, term: j }, left as i64, facts);
+        self.tell(way, Altered::ListByStrike { course: i, term: j }, left as i64, facts);
     }
 
     fn fix(&mut self, i: usize, j: usize, facts: Vec<Fact>) {
@@ -158,7 +159,7 @@ impl Telling {
         for i in open(&self.now, j) {
             let w = self.now.courses[i].weight;
             if small_p(&self.now, j) + w > self.now.terms[j].high_credits {
-                self.strike(i, j, fixed_and(&self.now, j, Credits));
+                self.strike(Way::Strike, i, j, fixed_and(&self.now, j, Credits));
             } else if large_p(&self.now, j) - w < self.now.terms[j].low_credits {
                 self.fix(i, j, not_listing_and(&self.now, j, Credits));
             }
@@ -205,13 +206,34 @@ impl Telling {
             }
             Fullness::FixedEqualsHighCount => {
                 // What is fixed in j, and its high count, are alike before each strike.
-                courses.for_each(|i| self.strike(i, j, with_fixed.clone()));
+                courses.for_each(|i| self.strike(Way::Strike, i, j, with_fixed.clone()));
             }
             Fullness::FixedPlusOpenEqualsLowCount => {
                 // Who does not list j, and its low count, are alike before each fixing.
                 courses.for_each(|i| self.fix(i, j, with_unlisted.clone()));
             }
             Fullness::Neither => {}
+        }
+        Ok(())
+    }
+
+    /// What it rests on is alike whatever it does, and is read anew for each course.
+    fn rule_12(&mut self, j: usize) -> Run {
+        let unfillable = unfillable(&self.now, j, Trap::None).map(|found| match found {
+            Unfillable::POverHighCredits => Way::POverHighCredits,
+            Unfillable::FiresOnAllOpen => Way::FiresOnAllOpen,
+        });
+        if let Some(way) = unfillable {
+            return self.no_plan(way, Some(j), pairs_and_credits(&self.now, j));
+        }
+        for i in open(&self.now, j) {
+            let facts = pairs_and_credits(&self.now, j);
+            match deed(&self.now, i, j, small_p(&self.now, j), Trap::None) {
+                Deed::StrikeByWeight => self.strike(Way::StrikeByWeight, i, j, facts),
+                Deed::StrikeByFiring => self.strike(Way::StrikeByFiring, i, j, facts),
+                Deed::Fix => self.fix(i, j, facts),
+                Deed::Leave => {}
+            }
         }
         Ok(())
     }

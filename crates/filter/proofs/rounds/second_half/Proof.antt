@@ -5,6 +5,7 @@ use Prim.Native.Nat.{ℕ}
 use lib.ListN.{length}
 use Rattle.year.specs.declared.Year.{Year}
 use Rattle.frame.specs.State.{yearIn, stepIn}
+use Rattle.frame.specs.declared.State.{State}
 use Rattle.rules.specs.Step.{Step}
 use Rattle.rules.specs.Round.{inRow, passesOf}
 use Rattle.rules.proofs.Narrows.{narrower-self}
@@ -51,6 +52,15 @@ at10 c =
     let b = start a in
     state-row (y b) (a .rules-6-to-9 .result) (step9 b) (at9 a) 10 10 (c .rule-10 .result) (c .rule-10 .ensures)
 
+abbrev step12 : tie.Start → Step
+step12 b = inRow (passesOf 6 11) (step5 b)
+
+at12 : (c : tie.After-rule-12) → let b = start (c .before .before .before) in StateAt (y b) (c .rule-12 .result) (step12 b)
+at12 c =
+    let a = c .before .before in
+    let b = start (a .before) in
+    state-row (y b) (a .rule-10 .result) (step10 b) (at10 a) 11 11 (c .rule-12 .result) (c .rule-12 .ensures)
+
 -- ---- the orders that are lent
 
 falling-is : (b : tie.Start) → b .args .o .down ≡ down (y b)
@@ -66,14 +76,13 @@ rising-long : (b : tie.Start) → 64 ≡ length (b .args .o .up)
 rising-long b = sym (ap length (rising-is b) ∙ up-fits (y b) (b .pre .0) .long)
 
 -- no rule alters a weight, so the courses stand in the order that they stood in
-still-rising : (c : tie.After-rule-10) → let b = start (c .before) in b .args .o .up ≡ up (yearIn (w b) (c .rule-10 .result))
-still-rising c =
-    let b = start (c .before) in
-    let n = at10 c .narrower in
+still-rising : (b : tie.Start) (r : State) (x : Step) → StateAt (y b) r x → b .args .o .up ≡ up (yearIn (w b) r)
+still-rising b r x at =
+    let n = at .narrower in
     ap (λ (o : Orders). o .up)
     (b .pre .1
-    ∙ sym (orders-weights (y b) (step10 b .year) (n .courses-same) (n .weight-same))
-    ∙ ap ordersOf (sym (state-year (y b) (c .rule-10 .result) (step10 b) (at10 c))))
+    ∙ sym (orders-weights (y b) (x .year) (n .courses-same) (n .weight-same))
+    ∙ ap ordersOf (sym (state-year (y b) r x at)))
 
 -- ---- the needs
 
@@ -95,23 +104,32 @@ rule-10-requires c κs =
     let r = c .rules-6-to-9 .result in
     state-sound (y b) r x (at9 c)
 
+slice-aggregate-rule-12 : tie.Need-slice-aggregate-rule-12
+slice-aggregate-rule-12 c = rising-long (start (c .before .before))
+
+rule-12-requires : tie.Need-rule-12-requires
+rule-12-requires c κs =
+    let d = c .before in
+    let b = start (d .before) in
+    let r = d .rule-10 .result in
+    (state-sound (y b) r (step10 b) (at10 d), still-rising b r (step10 b) (at10 d))
+
 slice-aggregate-rule-11 : tie.Need-slice-aggregate-rule-11
-slice-aggregate-rule-11 c = rising-long (start (c .before .before))
+slice-aggregate-rule-11 c = rising-long (start (c .before .before .before .before))
 
 rule-11-requires : tie.Need-rule-11-requires
 rule-11-requires c κs =
     let d = c .before in
-    let b = start (d .before) in
-    let x = step10 b in
-    let r = d .rule-10 .result in
-    (state-sound (y b) r x (at10 d), still-rising d)
+    let b = start (d .before .before .before) in
+    let r = d .rule-12 .result in
+    (state-sound (y b) r (step12 b) (at12 d), still-rising b r (step12 b) (at12 d))
 
 returns : tie.Need-returns
 unfolding secondHalf
 returns c =
     let a = c .before .before in
-    let b = start (a .before) in
-    state-row (y b) (a .rule-10 .result) (step10 b) (at10 a) 11 11 (c .rule-11 .result) (c .rule-11 .ensures) .is
+    let b = start (a .before .before .before) in
+    state-row (y b) (a .rule-12 .result) (step12 b) (at12 a) 12 12 (c .rule-11 .result) (c .rule-11 .ensures) .is
 
 pub second-half-spec : {M : Type 1} → statement M
 second-half-spec =
@@ -121,6 +139,8 @@ second-half-spec =
     slice-aggregate-rules-6-to-9-2
     rules-6-to-9-requires
     rule-10-requires
+    slice-aggregate-rule-12
+    rule-12-requires
     slice-aggregate-rule-11
     rule-11-requires
     returns)

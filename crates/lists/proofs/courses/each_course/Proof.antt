@@ -11,7 +11,7 @@ use Rattle.theory.specs.Fold.{fold}
 use Rattle.rules.specs.Step.{step}
 use Rattle.rules.specs.declared.Verdict.the-variants.{Stays}
 use Rattle.frame.specs.State.{held, yearIn}
-use Rattle.lists.specs.TermVerdict.{listAfter}
+use Rattle.frame.specs.Verdicts.{listAfter}
 use Rattle.lists.proofs.CourseLaws.{stateTo, Turn, turn-at}
 use Rattle.lists.proofs.courses.each_course.Statement.{statement}
 use Rattle.lists.proofs.courses.each_course.Tie as tie
@@ -75,10 +75,10 @@ enum-told c = search needs
 
 list-after-requires : tie.Need-list-after-requires Inv-loop μ-loop
 list-after-requires c κs = let q = c .before .before in
-    (omega (arith, start (q .before .before .before .before .before) .pre .1 .0), λ e. at (q .before .before) .is-listed (sym (q .course-verdict .ensures) ∙ e))
+    (omega (arith, start (q .before .before .before .before .before) .pre .1 .0), λ e. at (q .before .before) .under .is-listed (sym (q .course-verdict .ensures) ∙ e))
 
 changed-requires : tie.Need-changed-requires Inv-loop μ-loop
-changed-requires c κs = at (c .before .before .before .before .before) .asks
+changed-requires c κs = at (c .before .before .before .before .before) .under .asks
 
 mul-z : tie.Need-mul-z Inv-loop μ-loop
 mul-z c = search needs
@@ -97,7 +97,7 @@ loop-again c =
     let v = c .before in
     let o = v .before .before in
     let a = start (o .before .before .before) .args in
-    let t = at o in
+    let t = at o .under in
     let is = sym (v .course-verdict .ensures) in (
       search needs,
       ⊎-elim

@@ -3,8 +3,8 @@ use Prim.Native.Nat.{_-_}
 use mathlib.Core.Path.{ap}
 use native.Mathlib.Omega.{arith}
 use borrow.Author.Needs.{needs}
-use Rattle.lists.proofs.verdicts.list_after.Statement.{statement}
-use Rattle.lists.proofs.verdicts.list_after.Tie as tie
+use Rattle.frame.proofs.verdicts.list_after.Statement.{statement}
+use Rattle.frame.proofs.verdicts.list_after.Tie as tie
 
 enum-told : tie.Need-enum-told
 enum-told c = search needs
