@@ -27,26 +27,26 @@ use Rattle.boundary.specs.Calls.{when_room, read_code, imbalance_code, filter_le
 
 module _ (s : List ℕ) (got : Received) (is : got ≡ read_list s) where
   -- a year that was read is sound, and its records are the list
-  pub read-year : got.answer ≡ Done → Sound got.year × ((got.year.terms + got.year.courses) * 16 ≡ length s)
-  read-year a =
+  pub read_year : got.answer ≡ Done → Sound got.year × ((got.year.terms + got.year.courses) * 16 ≡ length s)
+  read_year a =
       let e : read_list s ≡ done got.year = sym is ∙ (λ i. record { answer = a i; year = got.year }) in
       (read_sound s got.year e, read_length s got.year e)
 
-  pub read-ends : (r : ℕ) → r ≡ packed (reading_told got.answer) → r ≡ read_code s
+  pub read_ends : (r : ℕ) → r ≡ packed (reading_told got.answer) → r ≡ read_code s
   unfolding read_code
-  read-ends r e = rw (sym is) e
+  read_ends r e = rw (sym is) e
 
-  pub imbalance-refused : (f : Fault) (k : ℕ) → got.answer ≡ Refused f k → (r : ℕ) → r ≡ packed (reading_told (Refused f k)) → r ≡ imbalance_code s
+  pub imbalance_refused : (f : Fault) (k : ℕ) → got.answer ≡ Refused f k → (r : ℕ) → r ≡ packed (reading_told (Refused f k)) → r ≡ imbalance_code s
   unfolding imbalance_code
-  imbalance-refused f k a r e = rw (sym is, a) e
+  imbalance_refused f k a r e = rw (sym is, a) e
 
-  pub imbalance-done : got.answer ≡ Done → (r : ℕ) → r ≡ packed (measured_told (imbalance_of got.year)) → r ≡ imbalance_code s
+  pub imbalance_done : got.answer ≡ Done → (r : ℕ) → r ≡ packed (measured_told (imbalance_of got.year)) → r ≡ imbalance_code s
   unfolding imbalance_code
-  imbalance-done a r e = rw (sym is, a) e
+  imbalance_done a r e = rw (sym is, a) e
 
-  pub filter-refused : (b : List ℕ) (f : Fault) (k : ℕ) → got.answer ≡ Refused f k → (r : ℕ) → r ≡ packed (reading_told (Refused f k)) → (r ≡ filter_code s (length b)) × (b ≡ filter_out s b)
+  pub filter_refused : (b : List ℕ) (f : Fault) (k : ℕ) → got.answer ≡ Refused f k → (r : ℕ) → r ≡ packed (reading_told (Refused f k)) → (r ≡ filter_code s (length b)) × (b ≡ filter_out s b)
   unfolding filter_code filter_out
-  filter-refused b f k a r e = (rw (sym is, a) e, rw (sym is, a) refl)
+  filter_refused b f k a r e = (rw (sym is, a) e, rw (sym is, a) refl)
 
   pub filter_short : (b : List ℕ) → got.answer ≡ Done → length b < length s → (packed short_told ≡ filter_code s (length b)) × (b ≡ filter_out s b)
   unfolding filter_code filter_out
@@ -70,17 +70,17 @@ module _ (s : List ℕ) (got : Received) (is : got ≡ read_list s) where
     narrow_done b a h r o e w = (rw (sym is, a, le-ltb (length b) (length s) h) e, rw (sym is, a, le-ltb (length b) (length s) h) w)
 
 module _ (t h : List ℕ) (got : Joined) (is : got ≡ join_of t h) where
-  answer-is : (join_of t h).answer ≡ got.answer
-  answer-is = sym (ap (λ (r : Joined). r.answer) is)
+  answer_is : (join_of t h).answer ≡ got.answer
+  answer_is = sym (ap (λ (r : Joined). r.answer) is)
 
   -- a joined year is sound, and its records are as long as both lists, which are short
-  pub join-year : got.answer ≡ joining.Done → Sound got.year × ((got.year.terms + got.year.courses) * 16 ≡ length t + length h) × (length t + length h ≤ 1280)
-  join-year a =
-      let j = joint t h (answer-is ∙ a) in
+  pub join_year : got.answer ≡ joining.Done → Sound got.year × ((got.year.terms + got.year.courses) * 16 ≡ length t + length h) × (length t + length h ≤ 1280)
+  join_year a =
+      let j = joint t h (answer_is ∙ a) in
       rw is (j.sound, omega (arith, j.term_bytes_lem, j.course_bytes_lem), omega (arith, j.term_bytes_lem, j.course_bytes_lem, j.sound.terms_most, j.sound.courses_most))
 
-  pub join-place : joining_place got.answer < 4294967296
-  join-place = rw is (omega (arith, place_few t h))
+  pub join_place : joining_place got.answer < 4294967296
+  join_place = rw is (omega (arith, place_few t h))
 
   pub join_refused : (b : List ℕ) → (got.answer ≡ joining.Done → ⊥) → (r : ℕ) → r ≡ packed (joining_told got.answer) → (r ≡ join_code t h (length b)) × (b ≡ join_out t h b)
   unfolding join_code join_out

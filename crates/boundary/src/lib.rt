@@ -1,6 +1,7 @@
 // The library for other languages: functions on byte slices and numbers, each with its answer packed into one number.
 // A list that does not read is refused as by reading, two lists that do not join as by joining; then a buffer shorter than what is to be
 // written by 9; then the call's own answer.
+#![tactic(auto)]
 pub mod codes;
 mod into;
 

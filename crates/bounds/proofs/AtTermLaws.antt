@@ -29,7 +29,7 @@ use Rattle.year.proofs.DoorLaws.{term_other}
 use Rattle.rules.specs.Step.{fails, move, raise_lower}
 use Rattle.rules.specs.Bounds.{own_sums, others_of, other_terms}
 use Rattle.frame.specs.Bounds.{outcome, put}
-use Rattle.frame.proofs.Moves.{outcome_sound, two-moves}
+use Rattle.frame.proofs.Moves.{outcome_sound, two_moves}
 use Rattle.bounds.specs.AtTerm.{totals_to, totals_with, totals_after, total_in, own_number, fixed_among, possible_among, own_sums_of, other_number, others_in, other_terms_of, other_terms_by}
 use Rattle.bounds.specs.declared.Totals.{Totals}
 use Rattle.bounds.specs.declared.Whole.{Whole}
@@ -62,8 +62,8 @@ totals_fit t k x s h e =
 
 module _ (t : List Term) (m j : ℕ) (l : j < m) where
   -- an entry is among the sums
-  pub entry-le : (x : Totals) → x ≡ totals_to t m → (low_in t j ≤ x.low.0) × (high_in t j ≤ x.high.0) × (least_in t j ≤ x.least.0) × (most_in t j ≤ x.most.0)
-  entry-le x e = (
+  pub entry_le : (x : Totals) → x ≡ totals_to t m → (low_in t j ≤ x.low.0) × (high_in t j ≤ x.high.0) × (least_in t j ≤ x.least.0) × (most_in t j ≤ x.most.0)
+  entry_le x e = (
     omega (arith, sum_term_le m j (low_in t) l, ap (λ (z : Totals). z.low.0) e),
     omega (arith, sum_term_le m j (high_in t) l, ap (λ (z : Totals). z.high.0) e),
     omega (arith, sum_term_le m j (least_in t) l, ap (λ (z : Totals). z.least.0) e),
@@ -71,8 +71,8 @@ module _ (t : List Term) (m j : ℕ) (l : j < m) where
   )
 
   module _ (long : m ≤ length t) (v : Term) where
-    sum-set : (f : Term → ℕ) → sum m (λ k. f (term_in t k)) - f (term_in t j) + f v ≡ sum m (λ k. f (term_in (set t j v) k))
-    sum-set f =
+    sum_set : (f : Term → ℕ) → sum m (λ k. f (term_in t k)) - f (term_in t j) + f v ≡ sum m (λ k. f (term_in (set t j v) k))
+    sum_set f =
         let here : f (term_in (set t j v) j) ≡ f v = ap f (get_or-set_same t j v zero_term (omega arith)) in
         omega (
           arith,
@@ -80,12 +80,12 @@ module _ (t : List Term) (m j : ℕ) (l : j < m) where
           sum_change m j (λ k. f (term_in (set t j v) k)) (λ k. f (term_in t k)) l (λ k h ne. ap f (get_or-set_other t j k v zero_term ne)),
         )
 
-    pub totals-set : (x : Totals) → x ≡ totals_to t m → totals_after x (term_in t j) v ≡ totals_to (set t j v) m
-    totals-set x e =
-        let a = sum-set (λ (z : Term). z.low.0) in
-        let b = sum-set (λ (z : Term). z.high.0) in
-        let c = sum-set (λ (z : Term). z.least.0) in
-        let d = sum-set (λ (z : Term). z.most.0) in
+    pub totals_set : (x : Totals) → x ≡ totals_to t m → totals_after x (term_in t j) v ≡ totals_to (set t j v) m
+    totals_set x e =
+        let a = sum_set (λ (z : Term). z.low.0) in
+        let b = sum_set (λ (z : Term). z.high.0) in
+        let c = sum_set (λ (z : Term). z.least.0) in
+        let d = sum_set (λ (z : Term). z.most.0) in
         ap (λ z. totals_after z (term_in t j) v) e
         ∙ (λ i. record { low = record { 0 = a i }; high = record { 0 = b i }; least = record { 0 = c i }; most = record { 0 = d i } })
 
@@ -111,27 +111,27 @@ module _ (y : Year) (j : ℕ) (h : j < y.terms) (l : j < length y.term) where
   sums_same Credits t = (refl, refl, refl)
   sums_same Counts t = (refl, refl, refl)
 
-  sums-are : (q : Quantity) → (fixed_among q (sums_at y j) ≡ fixed_of q y j) × (possible_among q (sums_at y j) ≡ fixed_of q y j + open_of q y j)
+  sums_are : (q : Quantity) → (fixed_among q (sums_at y j) ≡ fixed_of q y j) × (possible_among q (sums_at y j) ≡ fixed_of q y j + open_of q y j)
   unfolding sums_at
-  sums-are Credits = (refl, refl)
-  sums-are Counts = (refl, refl)
+  sums_are Credits = (refl, refl)
+  sums_are Counts = (refl, refl)
 
-  pub own-sums-are : (q : Quantity) → put y j (own_sums_of q (term_at y j) (sums_at y j)) ≡ raise_lower (own_number q) (own_sums q) y j
-  own-sums-are q =
-      let e = sums-are q in
+  pub own_sums_are : (q : Quantity) → put y j (own_sums_of q (term_at y j) (sums_at y j)) ≡ raise_lower (own_number q) (own_sums q) y j
+  own_sums_are q =
+      let e = sums_are q in
       ap₂ (λ a b. put y j (outcome (own_number q) false (term_at y j) (within q (term_at y j) a b))) e.0 e.1
-      ∙ two-moves (own_number q) (own_lawful q) y j l q (fixed_of q y j) (fixed_of q y j + open_of q y j) false (own_sums q) refl
+      ∙ two_moves (own_number q) (own_lawful q) y j l q (fixed_of q y j) (fixed_of q y j + open_of q y j) false (own_sums q) refl
       (λ t. let k = sums_same q t in ap₂ (λ a b. move High q (with_term y j t) j (a + b)) k.0 k.1)
 
-  totals-are : (s : Side) (q : Quantity) → total_in s q (totals_to y.term y.terms) ≡ sum y.terms (bound s q y)
-  totals-are Low Credits = refl
-  totals-are High Credits = refl
-  totals-are Low Counts = refl
-  totals-are High Counts = refl
+  totals_are : (s : Side) (q : Quantity) → total_in s q (totals_to y.term y.terms) ≡ sum y.terms (bound s q y)
+  totals_are Low Credits = refl
+  totals_are High Credits = refl
+  totals_are Low Counts = refl
+  totals_are High Counts = refl
 
   -- the sum over all terms less the term's own is the sum over the other terms, which the bounds of j do not touch
-  others-are : (s : Side) (q : Quantity) → others_in s q (totals_to y.term y.terms) (term_at y j) ≡ others_of s q y j
-  others-are s q = omega (arith, totals-are s q, others_split y.terms j (bound s q y) h)
+  others_are : (s : Side) (q : Quantity) → others_in s q (totals_to y.term y.terms) (term_at y j) ≡ others_of s q y j
+  others_are s q = omega (arith, totals_are s q, others_split y.terms j (bound s q y) h)
 
   others_same : (q : Quantity) (t : Term) → others_of Low q (with_term y j t) j ≡ others_of Low q y j
   others_same q t =
@@ -141,9 +141,9 @@ module _ (y : Year) (j : ℕ) (h : j < y.terms) (l : j < length y.term) where
         others_mono y.terms j (bound Low q y) (bound Low q (with_term y j t)) (λ k m d. le_of_eq (sym (ap (bound_of Low q) (term_other y j t k d)))),
       )
 
-  pub other-terms-are : (q : Quantity) → put y j (other_terms_of q (term_at y j) (totals_to y.term y.terms) (all_of q y)) ≡ raise_lower (other_number q) (other_terms q) y j
-  other-terms-are q =
+  pub other_terms_are : (q : Quantity) → put y j (other_terms_of q (term_at y j) (totals_to y.term y.terms) (all_of q y)) ≡ raise_lower (other_number q) (other_terms q) y j
+  other_terms_are q =
       let all = all_of q y in
-      ap₂ (λ a b. put y j (outcome (other_number q) (ltb all b) (term_at y j) (within q (term_at y j) (all - a) (all - b)))) (others-are High q) (others-are Low q)
-      ∙ two-moves (other_number q) (other_lawful q) y j l q (all - others_of High q y j) (all - others_of Low q y j) (ltb all (others_of Low q y j)) (other_terms q) refl
+      ap₂ (λ a b. put y j (outcome (other_number q) (ltb all b) (term_at y j) (within q (term_at y j) (all - a) (all - b)))) (others_are High q) (others_are Low q)
+      ∙ two_moves (other_number q) (other_lawful q) y j l q (all - others_of High q y j) (all - others_of Low q y j) (ltb all (others_of Low q y j)) (other_terms q) refl
       (λ t. ap₂ (λ a b. choose (ltb a b) fails (move High q (with_term y j t) j (a - b))) (sums_same q t).2 (others_same q t))

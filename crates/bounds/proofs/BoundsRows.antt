@@ -8,7 +8,7 @@ use Rattle.year.specs.Sums.{all_of, sums_at}
 use Rattle.year.specs.declared.Quantity.{Quantity}
 use Rattle.year.specs.declared.Quantity.TheVariants.{Credits, Counts}
 use Rattle.year.specs.declared.Year.{Year}
-use Rattle.year.proofs.SumLaws.{sums-read}
+use Rattle.year.proofs.SumLaws.{sums_read}
 use Rattle.rules.specs.Step.{Step, over_terms, raise_lower}
 use Rattle.rules.specs.Bounds.{rule1, rule2, rule4, rule5, own_sums, other_terms}
 use Rattle.rules.proofs.PlansKept.{Held}
@@ -21,7 +21,7 @@ use Rattle.frame.proofs.BoundsAt.{BoundsAt, at_next}
 use Rattle.bounds.specs.AtTerm.{totals_to, own_number, own_sums_of, own_sums_at, other_number, other_terms_of, other_terms_by, other_terms_at}
 use Rattle.bounds.specs.declared.Whole.{Whole}
 use Rattle.bounds.specs.declared.Whole.TheVariants as whole
-use Rattle.bounds.proofs.AtTermLaws.{own-sums-are, other-terms-are}
+use Rattle.bounds.proofs.AtTermLaws.{own_sums_are, other_terms_are}
 
 -- ---- the paper's rules, by quantity
 
@@ -68,15 +68,15 @@ by_quantity (whole.Counts all) = refl
 
 module _ (p : Step) (b : Bounds) (q : Step) (g : BoundsAt p b q) where
   -- only bounds were altered, so the sums at hand are the year's
-  sums-now : (y : Year) → BoundsOnly p.year y → p.year.sums ≡ tab 16 (sums_at y)
-  sums-now y k = sym k.sums_same ∙ k.narrower.sound.sums_kept
+  sums_now : (y : Year) → BoundsOnly p.year y → p.year.sums ≡ tab 16 (sums_at y)
+  sums_now y k = sym k.sums_same ∙ k.narrower.sound.sums_kept
 
-  pub row-own : (u : Quantity) (c : Bounds) → c ≡ bounds_over (own_sums_at u p.year.sums) b p.year.terms → BoundsAt p c (over_terms (own_rule u) q)
-  row-own u =
+  pub row_own : (u : Quantity) (c : Bounds) → c ≡ bounds_over (own_sums_at u p.year.sums) b p.year.terms → BoundsAt p c (over_terms (own_rule u) q)
+  row_own u =
       at_next p b q g (own_sums_at u p.year.sums) (own_rule u) (own_held u)
       (λ y j k h l.
-      ap (λ x. put y j (own_sums_of u (term_at y j) x)) (sums-read y p.year.sums (sums-now y k) j h)
-      ∙ own-sums-are y j l (omega (arith, k.narrower.sound)) u ∙ own_is u y j)
+      ap (λ x. put y j (own_sums_of u (term_at y j) x)) (sums_read y p.year.sums (sums_now y k) j h)
+      ∙ own_sums_are y j l (omega (arith, k.narrower.sound)) u ∙ own_is u y j)
 
   pub row_other : (all : Whole) (c : Bounds) → amount_of all ≡ all_of (quantity_of all) p.year → c ≡ bounds_over (other_terms_at p.year.terms all) b p.year.terms
       → BoundsAt p c (over_terms (other_rule (quantity_of all)) q)
@@ -86,4 +86,4 @@ module _ (p : Step) (b : Bounds) (q : Step) (g : BoundsAt p b q) where
       (λ y j k h l.
       ap (λ f. put y j (f (term_at y j) (totals_to y.term p.year.terms))) (by_quantity all)
       ∙ ap₂ (λ m a. put y j (other_terms_of u (term_at y j) (totals_to y.term m) a)) (sym k.narrower.terms_same) (e ∙ sym (all_kept p.year y k u))
-      ∙ other-terms-are y j l (omega (arith, k.narrower.sound)) u ∙ other_is u y j) c
+      ∙ other_terms_are y j l (omega (arith, k.narrower.sound)) u ∙ other_is u y j) c

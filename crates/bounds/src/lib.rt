@@ -1,4 +1,5 @@
 // Rules 1, 2, 4 and 5: a term's bounds against its own sums, and against the other terms' bounds, over the terms of the year.
+#![tactic(auto)]
 mod terms;
 
 ghost use Rattle.std.specs.Prelude.{◌≡◌};
@@ -11,14 +12,14 @@ use frame::State;
 use year::{Courses, Credits, Quantity};
 
 // What all terms together share out: all credits for rule 2, all courses for rule 5.
-#[derive(Drop)]
+#[derive(Clone, Copy)]
 pub enum Whole {
     Credits(Credits),
     Counts(Courses),
 }
 
 // The sums of each bound over all terms.
-#[derive(Drop)]
+#[derive(Clone, Copy)]
 pub struct Totals {
     pub low: Credits,
     pub high: Credits,

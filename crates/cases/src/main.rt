@@ -1,4 +1,5 @@
 // Writes the listing of each file that an argument names, each under its name.
+#![tactic(auto)]
 fn one(i: usize) {
     let mut name = io::buffer();
     let k = os::arg(i, &mut name);

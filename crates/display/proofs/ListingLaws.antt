@@ -9,7 +9,7 @@ use lib.Seq.{paste, take-length, take-paste}
 use borrow.Author.Tests.{le-leb, lt-leb}
 use Rattle.text.specs.Text.{newline, blank, row_of, line_of, terms_of}
 use Rattle.text.specs.Put.{Put}
-use Rattle.text.proofs.TextLaws.{room_first, turn-room, turn}
+use Rattle.text.proofs.TextLaws.{room_first, turn_room, turn}
 use Rattle.year.specs.Sound.{Sound}
 use Rattle.year.specs.declared.Course.{Course}
 use Rattle.year.specs.declared.Year.{Year}
@@ -68,57 +68,57 @@ year_rooms d word n y h =
 -- ---- lines in a row: the next has room, and with it the row is one longer
 
 module _ (line : ℕ → List ℕ) (n : ℕ) where
-  pub line-room : {d d' : List ℕ} {at r : ℕ} (k : ℕ) → k < n → at + length (joined line n) ≤ length d → Put d at (joined line k) d' r → r + length (line k) ≤ length d'
-  line-room k = turn-room (joined line) line n (λ i h. joined_more line i) k
+  pub line_room : {d d' : List ℕ} {at r : ℕ} (k : ℕ) → k < n → at + length (joined line n) ≤ length d → Put d at (joined line k) d' r → r + length (line k) ≤ length d'
+  line_room k = turn_room (joined line) line n (λ i h. joined_more line i) k
 
-  pub line-turn : {d d' d'' : List ℕ} {at r r' : ℕ} (k : ℕ) → k < n → at + length (joined line n) ≤ length d → Put d at (joined line k) d' r → Put d' r (line k) d'' r' → Put d at (joined line (k + 1)) d'' r'
-  line-turn k = turn (joined line) line n (λ i h. joined_more line i) k
+  pub line_turn : {d d' d'' : List ℕ} {at r r' : ℕ} (k : ℕ) → k < n → at + length (joined line n) ≤ length d → Put d at (joined line k) d' r → Put d' r (line k) d'' r' → Put d at (joined line (k + 1)) d'' r'
+  line_turn k = turn (joined line) line n (λ i h. joined_more line i) k
 
 -- ---- answers
 
 module _ (y : Year) (f : Filtered) (e : f ≡ filter_of y) where
   -- the filtered year is sound
-  pub filtered-sound : Sound y → Sound f.year
-  filtered-sound s = rw e (filter_narrower y s).sound
+  pub filtered_sound : Sound y → Sound f.year
+  filtered_sound s = rw e (filter_narrower y s).sound
 
   -- what a filtering prints by its answer a
   module _ (a : Answer) (q : f.answer ≡ a) where
     by : filtered_text (filter_of y) ≡ answer_text a f.year
     by = ap filtered_text (sym e) ∙ ap (λ (b : Answer). answer_text b f.year) q
 
-    pub filtered-room : (m : ℕ) → length (filtered_text (filter_of y)) ≤ m → length (answer_text a f.year) ≤ m
-    filtered-room m h = subst (λ (t : List ℕ). length t ≤ m) by h
+    pub filtered_room : (m : ℕ) → length (filtered_text (filter_of y)) ≤ m → length (answer_text a f.year) ≤ m
+    filtered_room m h = subst (λ (t : List ℕ). length t ≤ m) by h
 
-    pub filtered-put : (d d' : List ℕ) (r : ℕ) → Put d 0 (answer_text a f.year) d' r → Put d 0 (filtered_text (filter_of y)) d' r
-    filtered-put d d' r p = subst (λ (t : List ℕ). Put d 0 t d' r) (sym by) p
+    pub filtered_put : (d d' : List ℕ) (r : ℕ) → Put d 0 (answer_text a f.year) d' r → Put d 0 (filtered_text (filter_of y)) d' r
+    filtered_put d d' r p = subst (λ (t : List ℕ). Put d 0 t d' r) (sym by) p
 
 module _ (s : List ℕ) (r : Received) (e : r ≡ read_list s) where
   -- what was read is sound
-  pub received-sound : r.answer ≡ reading.Done → Sound r.year
-  received-sound q = read_sound s r.year (sym e ∙ (λ i. record { answer = q i; year = r.year }))
+  pub received_sound : r.answer ≡ reading.Done → Sound r.year
+  received_sound q = read_sound s r.year (sym e ∙ (λ i. record { answer = q i; year = r.year }))
 
   -- what a reading prints by its answer a, as the text t
   module _ (a : Reading) (q : r.answer ≡ a) (t : List ℕ) (is : reading_text a r.year ≡ t) where
-    pub received-by : listing_of s ≡ t
+    pub received_by : listing_of s ≡ t
     unfolding listing_of
-    received-by = ap received_text (sym e) ∙ ap (λ (b : Reading). reading_text b r.year) q ∙ is
+    received_by = ap received_text (sym e) ∙ ap (λ (b : Reading). reading_text b r.year) q ∙ is
 
-    pub received-room : (m : ℕ) → length (listing_of s) ≤ m → length t ≤ m
-    received-room m h = subst (λ (x : List ℕ). length x ≤ m) received-by h
+    pub received_room : (m : ℕ) → length (listing_of s) ≤ m → length t ≤ m
+    received_room m h = subst (λ (x : List ℕ). length x ≤ m) received_by h
 
-    pub received-put : (d d' : List ℕ) (n : ℕ) → Put d 0 t d' n → Put d 0 (listing_of s) d' n
-    received-put d d' n p = subst (λ (x : List ℕ). Put d 0 x d' n) (sym received-by) p
+    pub received_put : (d d' : List ℕ) (n : ℕ) → Put d 0 t d' n → Put d 0 (listing_of s) d' n
+    received_put d d' n p = subst (λ (x : List ℕ). Put d 0 x d' n) (sym received_by) p
 
   -- a refusal by its number n
   module _ (f : Fault) (k n : ℕ) (q : r.answer ≡ reading.Refused f k) (m : n ≡ fault_number f) where
     told : pair_text refused_word (fault_number f) k ≡ pair_text refused_word n k
     told = ap (λ (x : ℕ). pair_text refused_word x k) (sym m)
 
-    pub refused-room : (b : ℕ) → length (listing_of s) ≤ b → length (pair_text refused_word n k) ≤ b
-    refused-room b h = received-room (reading.Refused f k) q (pair_text refused_word n k) told b h
+    pub refused_room : (b : ℕ) → length (listing_of s) ≤ b → length (pair_text refused_word n k) ≤ b
+    refused_room b h = received_room (reading.Refused f k) q (pair_text refused_word n k) told b h
 
-    pub refused-put : (d d' : List ℕ) (x : ℕ) → Put d 0 (pair_text refused_word n k) d' x → Put d 0 (listing_of s) d' x
-    refused-put d d' x p = received-put (reading.Refused f k) q (pair_text refused_word n k) told d d' x p
+    pub refused_put : (d d' : List ℕ) (x : ℕ) → Put d 0 (pair_text refused_word n k) d' x → Put d 0 (listing_of s) d' x
+    refused_put d d' x p = received_put (reading.Refused f k) q (pair_text refused_word n k) told d d' x p
 
 pub place_small : (s : List ℕ) (f : Fault) (k : ℕ) → (read_list s).answer ≡ reading.Refused f k → k < 4294967296
 place_small s f k e = omega (arith, place_few s f k e)
@@ -126,32 +126,32 @@ place_small s f k e = omega (arith, place_few s f k e)
 -- ---- how a listing ends: the text t stands in front of a page d, and is put into the buffer b if it fits
 
 module _ (s : List ℕ) {d d' : List ℕ} {n : ℕ} (p : Put d 0 (listing_of s) d' n) where
-  pub page-length : n ≡ length (listing_of s)
-  page-length = p.next ∙ zero-add (length (listing_of s))
+  pub page_length : n ≡ length (listing_of s)
+  page_length = p.next ∙ zero-add (length (listing_of s))
 
-  pub page-front : take n d' ≡ listing_of s
-  page-front =
+  pub page_front : take n d' ≡ listing_of s
+  page_front =
       let t = listing_of s in
       ap₂ (λ (k : ℕ) (l : List ℕ). take k l) p.next p.wrote
       ∙ take-paste d 0 t (length t) (omega arith) (omega arith)
       ∙ take-length t
 
-  pub page-room : (b : List ℕ) → n ≤ length b → 0 + length (take n d') ≤ length b
-  page-room b h = rw page-front (omega (arith, page-length))
+  pub page_room : (b : List ℕ) → n ≤ length b → 0 + length (take n d') ≤ length b
+  page_room b h = rw page_front (omega (arith, page_length))
 
-  pub list-short : (b : List ℕ) → length b < n → (Short ≡ listed_of s (length b)) × (b ≡ listed_in s b)
+  pub list_short : (b : List ℕ) → length b < n → (Short ≡ listed_of s (length b)) × (b ≡ listed_in s b)
   unfolding listed_of listed_in
-  list-short b h =
-      let q = lt-leb (length (listing_of s)) (length b) (omega (arith, page-length)) in
+  list_short b h =
+      let q = lt-leb (length (listing_of s)) (length b) (omega (arith, page_length)) in
       (rw q refl, rw q refl)
 
   pub list_done : (b b' : List ℕ) (r : ℕ) → n ≤ length b → Put b 0 (take n d') b' r → (Done n ≡ listed_of s (length b)) × (b' ≡ listed_in s b)
   unfolding listed_of listed_in
   list_done b b' r h w =
       let t = listing_of s in
-      let q = le-leb (length t) (length b) (omega (arith, page-length)) in
+      let q = le-leb (length t) (length b) (omega (arith, page_length)) in
       let laid : b' ≡ t ++ drop (length t) b =
       w.wrote
-      ∙ ap (λ (l : List ℕ). paste b 0 l (length l)) page-front
+      ∙ ap (λ (l : List ℕ). paste b 0 l (length l)) page_front
       ∙ ap₂ (λ (l : List ℕ) (k : ℕ). l ++ drop k b) (take-length t) (zero-add (length t)) in
-      (rw q (ap Done page-length), rw q laid)
+      (rw q (ap Done page_length), rw q laid)

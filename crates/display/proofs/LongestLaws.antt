@@ -27,7 +27,7 @@ use Rattle.filter.specs.declared.Answer.{Answer}
 use Rattle.filter.specs.declared.Answer.TheVariants.{Settled, Open, NoPlan, Unsound}
 use Rattle.display.specs.Listing.{settled_word, open_word, no_plan_word, refused_word, term_word, course_word, term_line, course_line, term_line_at, course_line_at, year_text, pair_text, answer_text, filtered_text, listing_of, listed_of, listed_in}
 use Rattle.display.specs.Numbers.{listed_length}
-use Rattle.display.proofs.ListingLaws.{filtered-sound, received-by, received-sound}
+use Rattle.display.proofs.ListingLaws.{filtered_sound, received_by, received_sound}
 
 -- ---- digits
 
@@ -162,11 +162,11 @@ longest s = go (read_list s).answer refl
     go : (a : Reading) → (read_list s).answer ≡ a → length (listing_of s) ≤ 3436
     go reading.Done e =
         let y = (read_list s).year in
-        let sound = received-sound s (read_list s) refl e in
-        rw (received-by s (read_list s) refl reading.Done e (filtered_text (filter_of y)) refl)
-        (answer_length (filter_of y).answer (filter_of y).year (answer_few y).1 (filtered-sound y (filter_of y) refl sound))
+        let sound = received_sound s (read_list s) refl e in
+        rw (received_by s (read_list s) refl reading.Done e (filtered_text (filter_of y)) refl)
+        (answer_length (filter_of y).answer (filter_of y).year (answer_few y).1 (filtered_sound y (filter_of y) refl sound))
     go (reading.Refused f k) e =
-        rw (received-by s (read_list s) refl (reading.Refused f k) e (pair_text refused_word (fault_number f) k) refl)
+        rw (received_by s (read_list s) refl (reading.Refused f k) e (pair_text refused_word (fault_number f) k) refl)
         (omega (arith, pair_length refused_word (fault_number f) k))
 
 -- a buffer of as many bytes is never too short: its front part, as long as the answer says, is the listing

@@ -1,4 +1,5 @@
 // The listing of a list of records: the answer of its filtering and the filtered year as text, or why there is none.
+#![tactic(auto)]
 ghost use Rattle.std.specs.Prelude.{◌≡◌, ◌+◌, ◌<◌, ◌≤◌, length, take};
 ghost use Rattle.text.specs.Put.{Put};
 ghost use Rattle.year.specs.Sound.{Sound};
@@ -12,7 +13,7 @@ use records::Reading;
 use year::{Course, Term, Year, pairs};
 
 // How a listing ended: done, with the length of the text, or refused by 9.
-#[derive(Drop)]
+#[derive(Clone, Copy)]
 pub enum Listed {
     Done(usize),
     Short,

@@ -23,8 +23,8 @@ use Rattle.filter.specs.Filter.{filtered, at_rest, rounds_from}
 use Rattle.filter.specs.Halves.{first_half, second_half}
 use Rattle.filter.specs.declared.Answer.TheVariants.{NoPlan}
 use Rattle.filter.specs.declared.Filtered.{Filtered}
-use Rattle.filter.proofs.StateAt.{StateAt, state-sound, state-step, state-year, state-credits, state-rule}
-use Rattle.filter.proofs.RoundLaws.{halves, rounds_left, round-no-plan, round-at-rest, round-alters, round_falls}
+use Rattle.filter.proofs.StateAt.{StateAt, state_sound, state_step, state_year, state_credits, state_rule}
+use Rattle.filter.proofs.RoundLaws.{halves, rounds_left, round_no_plan, round_at_rest, round_alters, round_falls}
 
 -- after n rounds, each of which altered something: what is left to do from the year at hand gives what the whole filtering
 -- gives, and the leeway of that year has fallen by at least one a round
@@ -38,10 +38,10 @@ pub record BeforeRound (y : Year) (o : Orders) (s : State) (n : ℕ) : Type 0 wh
 module _ (y : Year) (sound : Sound y) where
   -- ---- before the first round
 
-  pub before-first : (o : Orders) (s : State) → s ≡ held (live y) → BeforeRound y o s 0
-  before-first o s q =
+  pub before_first : (o : Orders) (s : State) → s ≡ held (live y) → BeforeRound y o s 0
+  before_first o s q =
       let at : StateAt y s (live y) = record { is = q; narrower = narrower_self y sound } in
-      let year : year_in y.weight s ≡ y = state-year y s (live y) at in
+      let year : year_in y.weight s ≡ y = state_year y s (live y) at in
       record {
         from = ap (λ (x : Year). rounds_from 1025985 y x 0) (sym year);
         few = subst (λ (x : Year). leeway x + 0 ≤ 1025984) (sym year) (omega (arith, leeway_most y sound));
@@ -56,90 +56,90 @@ module _ (y : Year) (sound : Sound y) where
     abbrev z : Year
     z = year_in y.weight s
 
-    pub round-few : n ≤ 1025984
-    round-few = omega (arith, g.few)
+    pub round_few : n ≤ 1025984
+    round_few = omega (arith, g.few)
 
     at0 : StateAt y s (live z)
     at0 = record { is = g.is; narrower = g.narrower }
 
     -- what the first half asks
     pub credits : (a : ℕ) → a ≡ all_credits y → a ≡ all_credits z
-    credits a q = state-credits y s (live z) at0 a q
+    credits a q = state_credits y s (live z) at0 a q
 
     -- the round ends with a rule that finds no plan
     ended : (k : ℕ) → k ≡ (round z).rule → (k ≡ 0 → ⊥) → (f : Filtered) → f ≡ filtered (NoPlan k (n + 1)) y → f ≡ rounds_from 1025985 y y 0
     ended k q d f a =
         a
         ∙ ap (λ (r : ℕ). filtered (NoPlan r (n + 1)) y) q
-        ∙ sym (round-no-plan y z n round-few (ne_eqb (round z).rule 0 (λ t. d (q ∙ t))))
+        ∙ sym (round_no_plan y z n round_few (ne_eqb (round z).rule 0 (λ t. d (q ∙ t))))
         ∙ sym g.from
 
-    first-narrower : Narrower z (first_half z).year
+    first_narrower : Narrower z (first_half z).year
     unfolding first_half
-    first-narrower = row_narrower (passes_of 1 5) (lawful_part 1 5) z (live z) (narrower_self z g.narrower.sound)
+    first_narrower = row_narrower (passes_of 1 5) (lawful_part 1 5) z (live z) (narrower_self z g.narrower.sound)
 
     -- a first half that finds no plan is the round
-    first-last : eqb (first_half z).rule 0 ≡ false → round z ≡ first_half z
+    first_last : eqb (first_half z).rule 0 ≡ false → round z ≡ first_half z
     unfolding second_half
-    first-last d = halves z ∙ row_last (passes_from 6) (lawful_from 6) (first_half z) d
+    first_last d = halves z ∙ row_last (passes_from 6) (lawful_from 6) (first_half z) d
 
     module _ (r1 : State) (e1 : r1 ≡ held (first_half z)) where
       at1 : StateAt y r1 (first_half z)
-      at1 = record { is = e1; narrower = narrower_then y z (first_half z).year g.narrower first-narrower }
+      at1 = record { is = e1; narrower = narrower_then y z (first_half z).year g.narrower first_narrower }
 
       pub first_ended : (r1.rule ≡ 0 → ⊥) → (f : Filtered) → f ≡ filtered (NoPlan r1.rule (n + 1)) y → f ≡ rounds_from 1025985 y y 0
       first_ended d =
-          let q = state-rule y r1 (first_half z) at1 in
-          let last = first-last (ne_eqb (first_half z).rule 0 (λ t. d (q ∙ t))) in
+          let q = state_rule y r1 (first_half z) at1 in
+          let last = first_last (ne_eqb (first_half z).rule 0 (λ t. d (q ∙ t))) in
           ended r1.rule (q ∙ ap (λ (p : Step). p.rule) (sym last)) d
 
       -- what the second half asks
-      pub first-sound : Sound (year_in y.weight r1)
-      first-sound = state-sound y r1 (first_half z) at1
+      pub first_sound : Sound (year_in y.weight r1)
+      first_sound = state_sound y r1 (first_half z) at1
 
-      pub first-orders : (p : Orders) → p ≡ orders_in y.weight y.courses → p ≡ orders_of (year_in y.weight r1)
-      first-orders p q =
+      pub first_orders : (p : Orders) → p ≡ orders_in y.weight y.courses → p ≡ orders_of (year_in y.weight r1)
+      first_orders p q =
           q
           ∙ orders_are y
           ∙ sym (orders_weights y (first_half z).year at1.narrower.courses_same at1.narrower.weight_same)
-          ∙ ap orders_of (sym (state-year y r1 (first_half z) at1))
+          ∙ ap orders_of (sym (state_year y r1 (first_half z) at1))
 
       module _ (r2 : State) (e2 : r2 ≡ held (second_half (step_in y.weight r1))) where
         at2 : StateAt y r2 (round z)
         at2 = record {
-          is = e2 ∙ ap (λ (p : Step). held (second_half p)) (state-step y r1 (first_half z) at1) ∙ ap held (sym (halves z));
+          is = e2 ∙ ap (λ (p : Step). held (second_half p)) (state_step y r1 (first_half z) at1) ∙ ap held (sym (halves z));
           narrower = narrower_then y z (round z).year g.narrower (narrows_round z g.narrower.sound).year;
         }
 
-        rule-is : r2.rule ≡ (round z).rule
-        rule-is = state-rule y r2 (round z) at2
+        rule_is : r2.rule ≡ (round z).rule
+        rule_is = state_rule y r2 (round z) at2
 
-        altered-is : r2.altered ≡ (round z).altered
-        altered-is = ap (λ (q : State). q.altered) at2.is
+        altered_is : r2.altered ≡ (round z).altered
+        altered_is = ap (λ (q : State). q.altered) at2.is
 
-        year-is : year_in y.weight r2 ≡ (round z).year
-        year-is = state-year y r2 (round z) at2
+        year_is : year_in y.weight r2 ≡ (round z).year
+        year_is = state_year y r2 (round z) at2
 
         lives : r2.rule ≡ 0 → eqb (round z).rule 0 ≡ true
-        lives d = eq-eqb (round z).rule 0 (sym rule-is ∙ d)
+        lives d = eq-eqb (round z).rule 0 (sym rule_is ∙ d)
 
         pub second_ended : (r2.rule ≡ 0 → ⊥) → (f : Filtered) → f ≡ filtered (NoPlan r2.rule (n + 1)) y → f ≡ rounds_from 1025985 y y 0
-        second_ended d = ended r2.rule rule-is d
+        second_ended d = ended r2.rule rule_is d
 
-        pub second-sound : Sound (year_in y.weight r2)
-        second-sound = state-sound y r2 (round z) at2
+        pub second_sound : Sound (year_in y.weight r2)
+        second_sound = state_sound y r2 (round z) at2
 
         -- the year is at rest
-        pub second-at-rest : r2.rule ≡ 0 → r2.altered ≡ false → (f : Filtered) → f ≡ filtered (at_rest (year_in y.weight r2) (n + 1)) (year_in y.weight r2) → f ≡ rounds_from 1025985 y y 0
-        second-at-rest d a f q =
+        pub second_at_rest : r2.rule ≡ 0 → r2.altered ≡ false → (f : Filtered) → f ≡ filtered (at_rest (year_in y.weight r2) (n + 1)) (year_in y.weight r2) → f ≡ rounds_from 1025985 y y 0
+        second_at_rest d a f q =
             q
-            ∙ ap (λ (x : Year). filtered (at_rest x (n + 1)) x) year-is
-            ∙ sym (round-at-rest y z n round-few (lives d) (sym altered-is ∙ a))
+            ∙ ap (λ (x : Year). filtered (at_rest x (n + 1)) x) year_is
+            ∙ sym (round_at_rest y z n round_few (lives d) (sym altered_is ∙ a))
             ∙ sym g.from
 
         -- or there is less to narrow, and the filtering goes on
-        pub second-falls : r2.altered ≡ true → leeway (year_in y.weight r2) < leeway z
-        second-falls a = subst (λ (x : Year). leeway x < leeway z) (sym year-is) (round_falls z g.narrower.sound (sym altered-is ∙ a))
+        pub second_falls : r2.altered ≡ true → leeway (year_in y.weight r2) < leeway z
+        second_falls a = subst (λ (x : Year). leeway x < leeway z) (sym year_is) (round_falls z g.narrower.sound (sym altered_is ∙ a))
 
         abbrev again : State
         again = record {
@@ -152,11 +152,11 @@ module _ (y : Year) (sound : Sound y) where
           rule = r2.rule;
         }
 
-        pub second-alters : r2.rule ≡ 0 → r2.altered ≡ true → (p : Orders) → p ≡ orders_in y.weight y.courses → BeforeRound y p again (n + 1)
-        second-alters d a p q = record {
-          from = g.from ∙ round-alters y z n round-few (lives d) (sym altered-is ∙ a) ∙ ap (λ (x : Year). rounds_from (rounds_left (n + 1)) y x (n + 1)) (sym year-is);
-          few = omega (arith, g.few, second-falls a);
-          narrower = subst (Narrower y) (sym year-is) at2.narrower;
+        pub second_alters : r2.rule ≡ 0 → r2.altered ≡ true → (p : Orders) → p ≡ orders_in y.weight y.courses → BeforeRound y p again (n + 1)
+        second_alters d a p q = record {
+          from = g.from ∙ round_alters y z n round_few (lives d) (sym altered_is ∙ a) ∙ ap (λ (x : Year). rounds_from (rounds_left (n + 1)) y x (n + 1)) (sym year_is);
+          few = omega (arith, g.few, second_falls a);
+          narrower = subst (Narrower y) (sym year_is) at2.narrower;
           is = λ i. record {
             terms = r2.terms;
             courses = r2.courses;

@@ -39,17 +39,17 @@ module _ (y z : Year) (n : ℕ) (few : n ≤ 1025984) where
   next : rounds_left (n + 1) ≡ 1025984 - n
   next = omega arith
 
-  pub round-no-plan : eqb (round z).rule 0 ≡ false → rounds_from (rounds_left n) y z n ≡ filtered (NoPlan (round z).rule (n + 1)) y
+  pub round_no_plan : eqb (round z).rule 0 ≡ false → rounds_from (rounds_left n) y z n ≡ filtered (NoPlan (round z).rule (n + 1)) y
   unfolding rounds_from
-  round-no-plan d = rw (is, d, rounds_from)
+  round_no_plan d = rw (is, d, rounds_from)
 
-  pub round-at-rest : eqb (round z).rule 0 ≡ true → (round z).altered ≡ false → rounds_from (rounds_left n) y z n ≡ filtered (at_rest (round z).year (n + 1)) (round z).year
+  pub round_at_rest : eqb (round z).rule 0 ≡ true → (round z).altered ≡ false → rounds_from (rounds_left n) y z n ≡ filtered (at_rest (round z).year (n + 1)) (round z).year
   unfolding rounds_from
-  round-at-rest d a = rw (is, d, a, rounds_from)
+  round_at_rest d a = rw (is, d, a, rounds_from)
 
-  pub round-alters : eqb (round z).rule 0 ≡ true → (round z).altered ≡ true → rounds_from (rounds_left n) y z n ≡ rounds_from (rounds_left (n + 1)) y (round z).year (n + 1)
+  pub round_alters : eqb (round z).rule 0 ≡ true → (round z).altered ≡ true → rounds_from (rounds_left n) y z n ≡ rounds_from (rounds_left (n + 1)) y (round z).year (n + 1)
   unfolding rounds_from
-  round-alters d a = rw (is, next, d, a, rounds_from)
+  round_alters d a = rw (is, next, d, a, rounds_from)
 
 -- an altering round leaves less to narrow
 pub round_falls : (z : Year) → Sound z → (round z).altered ≡ true → leeway (round z).year < leeway z

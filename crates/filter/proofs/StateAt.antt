@@ -10,7 +10,7 @@ use Rattle.rules.specs.Round.{in_row, passes_of}
 use Rattle.frame.specs.declared.State.{State}
 use Rattle.rules.specs.Narrower.{Narrower}
 use Rattle.rules.proofs.Narrows.{credits_same}
-use Rattle.frame.proofs.StateLaws.{year-held, step-held, sound-held}
+use Rattle.frame.proofs.StateLaws.{year_held, step_held, sound_held}
 use Rattle.rules.proofs.Passes.{row_narrower, lawful_part}
 
 -- state r holds step x of a round that began with year y
@@ -23,24 +23,24 @@ module _ (y : Year) (r : State) (x : Step) (s : StateAt y r x) where
   own : y.weight ≡ x.year.weight
   own = sym s.narrower.weight_same
 
-  pub state-step : step_in y.weight r ≡ x
-  state-step = step-held y.weight x own r s.is
+  pub state_step : step_in y.weight r ≡ x
+  state_step = step_held y.weight x own r s.is
 
-  pub state-year : year_in y.weight r ≡ x.year
-  state-year = year-held y.weight x own r s.is
+  pub state_year : year_in y.weight r ≡ x.year
+  state_year = year_held y.weight x own r s.is
 
-  pub state-sound : Sound (year_in y.weight r)
-  state-sound = sound-held y.weight x own r s.is s.narrower.sound
+  pub state_sound : Sound (year_in y.weight r)
+  state_sound = sound_held y.weight x own r s.is s.narrower.sound
 
-  pub state-credits : (a : ℕ) → a ≡ all_credits y → a ≡ all_credits (year_in y.weight r)
-  state-credits a e = e ∙ sym (credits_same y x.year s.narrower.courses_same s.narrower.weight_same) ∙ ap all_credits (sym state-year)
+  pub state_credits : (a : ℕ) → a ≡ all_credits y → a ≡ all_credits (year_in y.weight r)
+  state_credits a e = e ∙ sym (credits_same y x.year s.narrower.courses_same s.narrower.weight_same) ∙ ap all_credits (sym state_year)
 
-  pub state-rule : r.rule ≡ x.rule
-  state-rule = ap (λ (q : State). q.rule) s.is
+  pub state_rule : r.rule ≡ x.rule
+  state_rule = ap (λ (q : State). q.rule) s.is
 
   -- the next rules
-  pub state-row : (a b : ℕ) (q : State) → q ≡ held (in_row (passes_of a b) (step_in y.weight r)) → StateAt y q (in_row (passes_of a b) x)
-  state-row a b q e = record {
-    is = e ∙ ap (λ t. held (in_row (passes_of a b) t)) state-step;
+  pub state_row : (a b : ℕ) (q : State) → q ≡ held (in_row (passes_of a b) (step_in y.weight r)) → StateAt y q (in_row (passes_of a b) x)
+  state_row a b q e = record {
+    is = e ∙ ap (λ t. held (in_row (passes_of a b) t)) state_step;
     narrower = row_narrower (passes_of a b) (lawful_part a b) y x s.narrower;
   }

@@ -5,7 +5,7 @@ use Rattle.std.specs.Prelude.{ℕ, [], ◌∷◌, ◌≡◌, refl, replicate}
 use Rattle.year.specs.Year.{term_of, course_of}
 use Rattle.year.specs.Examples.{year_of, year_e, off_e}
 use Rattle.year.specs.Sums.{sums_of, no_sums}
-use Rattle.rules.specs.Examples.{at_aTerms_size, above_half, at_its_own_size}
+use Rattle.rules.specs.Examples.{at_a_terms_size, above_half, at_its_own_size}
 use Rattle.year.specs.declared.Year.{Year}
 use Rattle.filter.specs.Filter.{filtered, filter_of}
 use Rattle.filter.specs.declared.Answer.TheVariants.{Settled, Open, NoPlan, Unsound}
@@ -174,7 +174,7 @@ unfolding computing
 rule_11_at_its_own_size = refl
 
 -- where only a term's size exceeds
-rule_11_at_a_terms_size : FindsNone at_aTerms_size 11 1
+rule_11_at_a_terms_size : FindsNone at_a_terms_size 11 1
 unfolding computing
 rule_11_at_a_terms_size = refl
 

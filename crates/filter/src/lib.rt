@@ -1,4 +1,5 @@
 // Filtering: rounds until one alters nothing, and the answer.
+#![tactic(auto)]
 mod rounds;
 
 ghost use Rattle.std.specs.Prelude.{◌≡◌};
@@ -8,7 +9,7 @@ ghost use Rattle.filter.specs.Filter.{filter_of};
 use year::Year;
 
 // How a filtering ended: settled or open with the number of rounds, no plan with the rule and the round that found it, or refusal 8.
-#[derive(Drop)]
+#[derive(Clone, Copy)]
 pub enum Answer {
     Settled(u32),
     Open(u32),
@@ -16,7 +17,7 @@ pub enum Answer {
     Unsound,
 }
 
-#[derive(Drop)]
+#[derive(Clone, Copy)]
 pub struct Filtered {
     pub answer: Answer,
     pub year: Year,

@@ -12,7 +12,7 @@ use Rattle.year.specs.Sums.{fixed_count, open_count, sums_at, sums_in}
 use Rattle.year.specs.Sound.{Sound, TermSound}
 use Rattle.year.specs.declared.Term.{Term}
 use Rattle.year.specs.declared.Year.{Year}
-use Rattle.year.proofs.SumLaws.{counts_le, sums-read}
+use Rattle.year.proofs.SumLaws.{counts_le, sums_read}
 use Rattle.rules.specs.Step.{Step, over_terms}
 use Rattle.rules.proofs.Narrows.{Narrows}
 use Rattle.rules.proofs.PlansKept.{Held}
@@ -23,7 +23,7 @@ use Rattle.frame.specs.declared.State.{State}
 use Rattle.frame.specs.declared.Bounds.{Bounds}
 use Rattle.frame.specs.declared.Outcome.{Outcome}
 use Rattle.frame.proofs.BoundsOnly.{BoundsOnly, only_self, only_then}
-use Rattle.frame.proofs.BoundsOver.{only-over, bounds-over}
+use Rattle.frame.proofs.BoundsOver.{only_over, bounds_over_lem}
 
 -- every entry of a sound year's bounds is within the sizes
 all_sound : (y : Year) → Sound y → (k : ℕ) → k < 16 → TermSound (term_at y k)
@@ -58,8 +58,8 @@ module _ (p : Step) (b : Bounds) (q : Step) (g : BoundsAt p b q) where
   pub at_long : length b.term ≡ 16
   at_long = ap (λ (z : Bounds). length z.term) g.bounds_are ∙ g.only.narrower.sound.term_length
 
-  pub at-sound : (k : ℕ) → k < 16 → TermSound (term_in b.term k)
-  at-sound k h = rw g.bounds_are (all_sound q.year g.only.narrower.sound k h)
+  pub at_sound : (k : ℕ) → k < 16 → TermSound (term_in b.term k)
+  at_sound k h = rw g.bounds_are (all_sound q.year g.only.narrower.sound k h)
 
   -- the next rule, which f gives where only bounds have been altered
   pub at_next : (f : List Term → ℕ → Outcome) (rule : Year → ℕ → Step) → AtTerms Held rule
@@ -69,8 +69,8 @@ module _ (p : Step) (b : Bounds) (q : Step) (g : BoundsAt p b q) where
       let k = g.only in
       let m = q.year.terms in
       record {
-        bounds_are = e ∙ ap₂ (bounds_over f) g.bounds_are (sym k.narrower.terms_same) ∙ bounds-over f rule law q k.narrower.sound again m (le_refl m);
-        only = only_then p.year q.year (over_terms rule q).year k (only-over f rule law q k.narrower.sound again m (le_refl m));
+        bounds_are = e ∙ ap₂ (bounds_over f) g.bounds_are (sym k.narrower.terms_same) ∙ bounds_over_lem f rule law q k.narrower.sound again m (le_refl m);
+        only = only_then p.year q.year (over_terms rule q).year k (only_over f rule law q k.narrower.sound again m (le_refl m));
       }
     where
       law : AtTerms Narrows rule
@@ -80,8 +80,8 @@ module _ (p : Step) (b : Bounds) (q : Step) (g : BoundsAt p b q) where
       again y j l h = same y j (only_then p.year q.year y g.only l) (omega (arith, l.narrower.sound)) h
 
   -- the state with these bounds holds the step
-  pub at-end : (s : State) → s ≡ held p → with_bounds s b ≡ held q
-  at-end s e =
+  pub at_end : (s : State) → s ≡ held p → with_bounds s b ≡ held q
+  at_end s e =
       let k = g.only in
       let m = sym k.narrower.terms_same in
       let n = sym k.narrower.courses_same in
@@ -94,4 +94,4 @@ module _ (p : Step) (b : Bounds) (q : Step) (g : BoundsAt p b q) where
 
 pub sums_fit : (y : Year) → Sound y → (k : ℕ) → k < 16 → ((sums_in y.sums k).placed.0 ≤ 64) × ((sums_in y.sums k).free.0 ≤ 64)
 unfolding sums_at fixed_count open_count
-sums_fit y s k h = rw (sums-read y y.sums s.sums_kept k h) (omega (arith, s, counts_le y k), omega (arith, s, counts_le y k))
+sums_fit y s k h = rw (sums_read y y.sums s.sums_kept k h) (omega (arith, s, counts_le y k), omega (arith, s, counts_le y k))

@@ -11,7 +11,7 @@ use lib.ListN.{length, length-set}
 use borrow.Author.Tests.{ltb-true}
 use Rattle.theory.specs.Choice.{choose}
 use Rattle.theory.proofs.TestLaws.{and_true}
-use Rattle.theory.proofs.FoldLaws.{fold_more, fold-finish, fold-keeps, fold-told}
+use Rattle.theory.proofs.FoldLaws.{fold_more, fold_finish, fold_keeps, fold_told}
 use Rattle.year.specs.Sound.{Sound}
 use Rattle.year.specs.declared.Term.{Term}
 use Rattle.year.specs.declared.Year.{Year}
@@ -29,21 +29,21 @@ pub goes_on : (j m r : ℕ) → ltb j m && eqb r 0 ≡ true → (j < m) × (eqb 
 goes_on j m r e = let p = and_true (ltb j m) (eqb r 0) e in (ltb-true j m p.0, p.1)
 
 module _ (f : List Term → ℕ → Outcome) (b : Bounds) where
-  pub over-long : (j : ℕ) → length (bounds_over f b j).term ≡ length b.term
-  over-long j =
-      fold-keeps going (turned f) b (λ z. length z.term ≡ length b.term) j
+  pub over_long : (j : ℕ) → length (bounds_over f b j).term ≡ length b.term
+  over_long j =
+      fold_keeps going (turned f) b (λ z. length z.term ≡ length b.term) j
       (λ z k l e q. length-set z.term k (f z.term k).term ∙ q)
       refl
 
   -- the outcome at j is stored
-  pub term-turn : (j : ℕ) (z : Bounds) (o : Outcome) → z ≡ bounds_over f b j → eqb z.rule 0 ≡ true → o ≡ f z.term j → put_at z j o ≡ bounds_over f b (j + 1)
-  term-turn j z o e live q =
+  pub term_turn : (j : ℕ) (z : Bounds) (o : Outcome) → z ≡ bounds_over f b j → eqb z.rule 0 ≡ true → o ≡ f z.term j → put_at z j o ≡ bounds_over f b (j + 1)
+  term_turn j z o e live q =
       let is : choose (going z) (turned f z j) z ≡ turned f z j = rw live in
       ap (put_at z j) q ∙ sym is ∙ ap (λ (x : Bounds). choose (going x) (turned f x j) x) e ∙ sym (fold_more going (turned f) b j)
 
   -- where the loop ends, all terms are done
-  pub over-finish : (j m : ℕ) (z : Bounds) → j ≤ m → z ≡ bounds_over f b j → ltb j m && eqb z.rule 0 ≡ false → z ≡ bounds_over f b m
-  over-finish j m z h e q = e ∙ fold-finish going (turned f) b j m h (ap (λ (x : Bounds). ltb j m && going x) (sym e) ∙ q)
+  pub over_finish : (j m : ℕ) (z : Bounds) → j ≤ m → z ≡ bounds_over f b j → ltb j m && eqb z.rule 0 ≡ false → z ≡ bounds_over f b m
+  over_finish j m z h e q = e ∙ fold_finish going (turned f) b j m h (ap (λ (x : Bounds). ltb j m && going x) (sym e) ∙ q)
 
 -- ---- against the definition over years
 
@@ -57,13 +57,13 @@ module _ (f : List Term → ℕ → Outcome) (rule : Year → ℕ → Step) (law
   further z k l b = only_next rule law s.year z k (f z.term k) (same z k b (within z k l b)) b (within z k l b)
 
   -- only bounds are altered over the first n terms
-  pub only-over : (n : ℕ) → n ≤ s.year.terms → BoundsOnly s.year (over_to rule s n).year
-  only-over n h =
-      fold-keeps goes (then rule) s (λ z. BoundsOnly s.year z.year) n (λ z k l e b. further z.year k (omega arith) b) (only_self s.year a)
+  pub only_over : (n : ℕ) → n ≤ s.year.terms → BoundsOnly s.year (over_to rule s n).year
+  only_over n h =
+      fold_keeps goes (then rule) s (λ z. BoundsOnly s.year z.year) n (λ z k l e b. further z.year k (omega arith) b) (only_self s.year a)
 
-  pub bounds-over : (n : ℕ) → n ≤ s.year.terms → bounds_over f (bounds_of s) n ≡ bounds_of (over_to rule s n)
-  bounds-over n h =
-      sym (fold-told goes (then rule) going (turned f) bounds_of (λ z. BoundsOnly s.year z.year) n
+  pub bounds_over_lem : (n : ℕ) → n ≤ s.year.terms → bounds_over f (bounds_of s) n ≡ bounds_of (over_to rule s n)
+  bounds_over_lem n h =
+      sym (fold_told goes (then rule) going (turned f) bounds_of (λ z. BoundsOnly s.year z.year) n
       (λ z. refl)
       (λ z k l e b. further z.year k (omega arith) b)
       (λ z k l e b. ap (λ (t : Step). bounds_of (joined z t)) (sym (same z.year k b (within z.year k (omega arith) b))))

@@ -22,7 +22,7 @@ use Rattle.year.specs.declared.Side.TheVariants.{Low, High}
 use Rattle.year.specs.declared.Term.{Term}
 use Rattle.year.specs.declared.Tight.{Tight}
 use Rattle.year.specs.declared.Year.{Year}
-use Rattle.year.proofs.BoundLaws.{tight-same, at_once, at_once_lem, within_raise, within_lower}
+use Rattle.year.proofs.BoundLaws.{tight_same, at_once, at_once_lem, within_raise, within_lower}
 use Rattle.year.proofs.DoorLaws.{term_same}
 use Rattle.rules.specs.Step.{Change, rests, moves, crosses, fails, applied, move, raise_lower, step, dead, goes, joined, Step}
 use Rattle.frame.specs.Bounds.{outcome_of, outcome, put}
@@ -40,34 +40,34 @@ twice : (y : Year) (j : ℕ) (t u : Term) → with_term (with_term y j t) j u �
 twice y j t u = ap (with_terms y) (set-set y.term j t u)
 
 module _ (r : ℕ) where
-  put-dead : (y : Year) (j : ℕ) → put y j (outcome_of (term_at y j) false r) ≡ dead r y
-  put-dead y j = ap (λ z. step z false r) (own_term y j)
+  put_dead : (y : Year) (j : ℕ) → put y j (outcome_of (term_at y j) false r) ≡ dead r y
+  put_dead y j = ap (λ z. step z false r) (own_term y j)
 
   -- ---- one move; f is what the rule itself calls no plan
 
-  one-move : (y : Year) (j : ℕ) (s : Side) (q : Quantity) (n : ℕ) (f : Bool)
+  one_move : (y : Year) (j : ℕ) (s : Side) (q : Quantity) (n : ℕ) (f : Bool)
       → put y j (outcome r f (term_at y j) (tightened s q (term_at y j) n)) ≡ applied r y (choose f fails (move s q y j n))
   unfolding move outcome
-  one-move y j s q n true = put-dead y j
-  one-move y j s q n false = go w.crossed w.altered refl
+  one_move y j s q n true = put_dead y j
+  one_move y j s q n false = go w.crossed w.altered refl
     where
       w : Tight
       w = tightened s q (term_at y j) n
 
       go : (c a : Bool) → w.altered ≡ a
           → put y j (choose c (outcome_of (term_at y j) false r) (outcome_of w.term a 0)) ≡ applied r y (choose c (crosses s q j) (choose a (moves s q j n) rests))
-      go true a e = put-dead y j
+      go true a e = put_dead y j
       go false true e = refl
-      go false false e = ap (λ u. step (with_term y j u) false 0) (tight-same s q (term_at y j) n e) ∙ ap (λ z. step z false 0) (own_term y j)
+      go false false e = ap (λ u. step (with_term y j u) false 0) (tight_same s q (term_at y j) n e) ∙ ap (λ z. step z false 0) (own_term y j)
 
   -- the code brings both bounds within the new one and the other that is there
-  pub raise-move : (y : Year) (j : ℕ) (q : Quantity) (n : ℕ) (f : Bool)
+  pub raise_move : (y : Year) (j : ℕ) (q : Quantity) (n : ℕ) (f : Bool)
       → put y j (outcome r f (term_at y j) (within q (term_at y j) n (bound_of High q (term_at y j)))) ≡ applied r y (choose f fails (move Low q y j n))
-  raise-move y j q n f = ap (λ w. put y j (outcome r f (term_at y j) w)) (within_raise q (term_at y j) n) ∙ one-move y j Low q n f
+  raise_move y j q n f = ap (λ w. put y j (outcome r f (term_at y j) w)) (within_raise q (term_at y j) n) ∙ one_move y j Low q n f
 
-  pub lower-move : (y : Year) (j : ℕ) (q : Quantity) (n : ℕ) (f : Bool)
+  pub lower_move : (y : Year) (j : ℕ) (q : Quantity) (n : ℕ) (f : Bool)
       → put y j (outcome r f (term_at y j) (within q (term_at y j) (bound_of Low q (term_at y j)) n)) ≡ applied r y (choose f fails (move High q y j n))
-  lower-move y j q n f = ap (λ w. put y j (outcome r f (term_at y j) w)) (within_lower q (term_at y j) n) ∙ one-move y j High q n f
+  lower_move y j q n f = ap (λ w. put y j (outcome r f (term_at y j) w)) (within_lower q (term_at y j) n) ∙ one_move y j High q n f
 
   -- ---- raise, then lower: what is asked of the year for the second move is the same before the first and after it
 
@@ -90,7 +90,7 @@ module _ (r : ℕ) where
     second_is =
         let z = with_term y j v.term in
         ap (applied r z) (high v.term)
-        ∙ sym (one-move z j High q b f)
+        ∙ sym (one_move z j High q b f)
         ∙ ap (λ u. put z j (outcome r f u (tightened High q u b))) (term_same y j v.term l)
         ∙ ap (λ x. step x (outcome r f v.term w).altered (outcome r f v.term w).rule) (twice y j v.term (outcome r f v.term w).term)
 
@@ -101,14 +101,14 @@ module _ (r : ℕ) where
     -- the second finds no plan, or it does not
     ended : (e : Bool) (s : Step) → goes s ≡ true
         → put y j (choose e (outcome_of t false r) (outcome_of w.term (s.altered || w.altered) 0)) ≡ both s (put y j (choose e (outcome_of v.term false r) (outcome_of w.term w.altered 0)))
-    ended true s h = rw (h, ne_eqb r 0 d) (put-dead y j)
+    ended true s h = rw (h, ne_eqb r 0 d) (put_dead y j)
     ended false s h = rw h refl
 
-    pub two-moves : put y j (outcome r f t (within q t a b)) ≡ raise_lower r g y j
+    pub two_moves : put y j (outcome r f t (within q t a b)) ≡ raise_lower r g y j
     unfolding within outcome
-    two-moves =
+    two_moves =
         go v.crossed refl
-        ∙ ap (λ (s : Step). both s (second s.year)) (one-move y j Low q a false ∙ ap (applied r y) (sym low))
+        ∙ ap (λ (s : Step). both s (second s.year)) (one_move y j Low q a false ∙ ap (applied r y) (sym low))
       where
         or_true : (x : Bool) → x || true ≡ true
         or_true true = refl
@@ -117,7 +117,7 @@ module _ (r : ℕ) where
         go : (c : Bool) → v.crossed ≡ c
             → let s = put y j (choose c (outcome_of t false r) (outcome_of v.term v.altered 0)) in
             put y j (choose (f || (c || w.crossed)) (outcome_of t false r) (outcome_of w.term (v.altered || w.altered) 0)) ≡ both s (second s.year)
-        go true e = rw (or_true f, ne_eqb r 0 d) (put-dead y j)
+        go true e = rw (or_true f, ne_eqb r 0 d) (put_dead y j)
         go false e =
             ended (f || w.crossed) (step (with_term y j v.term) v.altered 0) refl
             ∙ ap (both (step (with_term y j v.term) v.altered 0)) (sym second_is)

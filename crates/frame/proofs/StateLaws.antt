@@ -9,11 +9,11 @@ use Rattle.frame.specs.declared.State.{State}
 
 -- a state that holds a step, and the weights of that step's year
 module _ (w : List ℕ) (p : Step) (same : w ≡ p.year.weight) (r : State) (e : r ≡ held p) where
-  pub step-held : step_in w r ≡ p
-  step-held = ap₂ step_in same e
+  pub step_held : step_in w r ≡ p
+  step_held = ap₂ step_in same e
 
-  pub year-held : year_in w r ≡ p.year
-  year-held = ap₂ year_in same e
+  pub year_held : year_in w r ≡ p.year
+  year_held = ap₂ year_in same e
 
-  pub sound-held : Sound p.year → Sound (year_in w r)
-  sound-held s = subst Sound (sym year-held) s
+  pub sound_held : Sound p.year → Sound (year_in w r)
+  sound_held s = subst Sound (sym year_held) s

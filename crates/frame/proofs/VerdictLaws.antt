@@ -1,6 +1,6 @@
 -- A course under a verdict: what the code has to know before it stores the course's new list and the sums, and what it has then.
 use Prim.Native.Nat.{ℕ, ◌^◌, ◌≤◌, ◌<◌}
-use mathlib.Core.Bool.{true, not, or_true, or_false}
+use mathlib.Core.Bool.{true, not, or-true, or-false}
 use mathlib.Core.List.{List}
 use mathlib.Core.Path.{◌≡◌, refl, sym, ap, ◌∙◌, subst}
 use native.Mathlib.Omega.{arith}
@@ -16,7 +16,7 @@ use Rattle.year.specs.Sound.{Sound}
 use Rattle.year.specs.declared.Course.{Course}
 use Rattle.year.specs.declared.Sums.{Sums}
 use Rattle.year.specs.declared.Year.{Year}
-use Rattle.year.proofs.ChangeLaws.{change-asks, change-gives}
+use Rattle.year.proofs.ChangeLaws.{change_asks, change_gives}
 use Rattle.rules.specs.Step.{Step, step, judged, joined}
 use Rattle.rules.specs.declared.Verdict.{Verdict}
 use Rattle.rules.specs.declared.Verdict.TheVariants.{Stays, Struck, Fixed}
@@ -44,27 +44,27 @@ module _ (p : Step) (sound : Sound p.year) (going : p.rule ≡ 0) (i j : ℕ) (i
   abbrev after : State
   after = held (joined p (judged p.year i j v))
 
-  sums-are : z.sums ≡ p.year.sums
-  sums-are = ap (λ (q : State). q.sums) inv
+  sums_are : z.sums ≡ p.year.sums
+  sums_are = ap (λ (q : State). q.sums) inv
 
-  struck-lists : v ≡ Struck → lists (course_at p.year i) j ≡ true
-  struck-lists e =
+  struck_lists : v ≡ Struck → lists (course_at p.year i) j ≡ true
+  struck_lists e =
       let is_open_lem : is_open (course_at p.year i) j ≡ true = only-open (λ q. let x : ◌≡◌ {A = ℕ} 0 1 = cc in omega arith) in
       (and_true (lists (course_at p.year i) j) (not (is_fixed (course_at p.year i) j)) is_open_lem).0
 
-  pub under-verdict : UnderVerdict v i j c z after
-  under-verdict = record {
-    is_listed = λ e. rw is (has_le (list p.year i) j (struck-lists e));
-    asks = subst (λ u. (c.weight.0 ≤ 1000) × ((k : ℕ) → k < 16 → Within (sums_in u k) (part_of c k))) (sym sums-are) (change-asks p.year sound i inside c is);
+  pub under_verdict : UnderVerdict v i j c z after
+  under_verdict = record {
+    is_listed = λ e. rw is (has_le (list p.year i) j (struck_lists e));
+    asks = subst (λ u. (c.weight.0 ≤ 1000) × ((k : ℕ) → k < 16 → Within (sums_in u k) (part_of c k))) (sym sums_are) (change_asks p.year sound i inside c is);
     stays = λ e.
-        let m = sym (or_false p.altered) in
+        let m = sym (or-false p.altered) in
         inv ∙ (λ n. held (step p.year (m n) (going n))) ∙ ap (λ u. held (joined p (judged p.year i j u))) (sym e);
     alters = λ d x q u f.
         let y = p.year in
         let new = list_after v (list y i) j in
         let at : x ≡ new = q ∙ ap (λ (a : Course). list_after v a.list j) is in
-        let sums = f ∙ ap (λ b. tab 16 (changed_at b c x)) sums-are ∙ ap (λ b. tab 16 (changed_at y.sums c b)) at ∙ change-gives y sound i inside c is new in
-        let m = sym (or_true p.altered) in
+        let sums = f ∙ ap (λ b. tab 16 (changed_at b c x)) sums_are ∙ ap (λ b. tab 16 (changed_at y.sums c b)) at ∙ change_gives y sound i inside c is new in
+        let m = sym (or-true p.altered) in
         let r = ap (λ (a : State). a.rule) inv ∙ going in
         (λ n. record { terms = (inv n).terms; courses = (inv n).courses; term = (inv n).term; list = set (inv n).list i (at n); sums = sums n; altered = m n; rule = r n })
         ∙ ap (λ a. held (joined p a)) (sym (judged_alters y i j v d));

@@ -1,5 +1,6 @@
 // What the code of every rule stands on: a year on its way through a round, its bounds by themselves, the outcome at a term, and
 // a course under a verdict.
+#![tactic(auto)]
 pub mod verdicts;
 
 ghost use Rattle.std.specs.Prelude.{◌≡◌};
@@ -9,7 +10,7 @@ use year::{Sums, Term, Tight, Year};
 
 // A year on its way through the rules, but for the weights, which never change: its sizes, bounds and lists, the sums of
 // its terms, whether something was altered, and the rule that found no plan (0 while none has).
-#[derive(Drop)]
+#[derive(Clone, Copy)]
 pub struct State {
     pub terms: usize,
     pub courses: usize,
@@ -21,7 +22,7 @@ pub struct State {
 }
 
 // The bounds of a year on their way through rules that alter nothing else.
-#[derive(Drop)]
+#[derive(Clone, Copy)]
 pub struct Bounds {
     pub term: [Term; Year::TERMS],
     pub altered: bool,
@@ -29,7 +30,7 @@ pub struct Bounds {
 }
 
 // A term after a rule was run on its bounds.
-#[derive(Drop)]
+#[derive(Clone, Copy)]
 pub struct Outcome {
     pub term: Term,
     pub altered: bool,

@@ -27,7 +27,7 @@ use Rattle.records.specs.declared.Received.{Received}
 use Rattle.records.specs.Reading.{OfTerm, OfCourse, blank_year, add_term, add_course, done, gathered, bad_length, summed}
 use Rattle.records.proofs.EntryLaws.{TermHeld, TermRead, of_term_lem, of_course_lem, term_no_course, course_no_term}
 use Rattle.year.proofs.SoundLaws.{with_sums_same}
-use Rattle.records.proofs.GatherLaws.{gathered-keeps, listed-done, listed-refused, summed_refused, Begun, begun_blank, begun-term, begun-course, begun_sound, term-added, term-before, course-added, course-before}
+use Rattle.records.proofs.GatherLaws.{gathered_keeps, listed_done, listed_refused, summed_refused, Begun, begun_blank, begun_term, begun_course, begun_sound, term_added, term_before, course_added, course_before}
 use Rattle.records.proofs.ListLaws.{length_good}
 use Rattle.hours.specs.declared.Joining.TheVariants.{Done, InTerms}
 use Rattle.hours.specs.declared.Joined.{Joined}
@@ -53,7 +53,7 @@ terms_start s = record { begun = begun_blank; no_course = refl; sums_kept = refl
 terms_term : (s : List ℕ) (k : ℕ) (y : Year) (t : Term) → Terms s k y → term_entry s k y ≡ OfTerm t → Terms s (suc k) (add_term y t)
 unfolding sums_at fixed_credits open_credits fixed_count open_count
 terms_term s k y t p e = record {
-  begun = begun-term y t p.begun r.1.room (rw (sym r.1.held.holds) r.1.held.sound) p.no_course;
+  begun = begun_term y t p.begun r.1.room (rw (sym r.1.held.holds) r.1.held.sound) p.no_course;
   no_course = p.no_course;
   sums_kept = p.sums_kept;
   count = omega (arith, p.count);
@@ -64,16 +64,16 @@ terms_term s k y t p e = record {
     r = alone_read s (k * 16) y.terms t (of_term_lem (term_alone s (k * 16) y.terms) t e)
 
     at : (j : ℕ) → j < suc k → Dec (j ≡ k) → (letter_at s (j * 16) ≡ 84) × TermHeld s (j * 16) (term_at (add_term y t) j)
-    at j h (yes q) = rw (term-added y t p.begun r.1.room j (q ∙ sym p.count), q) (r.0, r.1.held)
+    at j h (yes q) = rw (term_added y t p.begun r.1.room j (q ∙ sym p.count), q) (r.0, r.1.held)
     at j h (no d) =
         let other : j ≡ y.terms → ⊥ = λ q. d (q ∙ p.count) in
-        rw (term-before y t p.begun r.1.room j other) (p.each j (omega (arith, d)))
+        rw (term_before y t p.begun r.1.room j other) (p.each j (omega (arith, d)))
 
 terms_course : (s : List ℕ) (k : ℕ) (y : Year) (c : Course) → Terms s k y → term_entry s k y ≡ OfCourse c → Terms s (suc k) (add_course y c)
 terms_course s k y c p e = absurd (term_no_course (term_alone s (k * 16) y.terms) c e)
 
 pub terms_so_far : (s : List ℕ) (k : ℕ) (y : Year) → gathered (term_entry s) blank_year k ≡ done y → Terms s k y
-terms_so_far s = gathered-keeps (term_entry s) blank_year (Terms s) (terms_start s) (terms_term s) (terms_course s)
+terms_so_far s = gathered_keeps (term_entry s) blank_year (Terms s) (terms_start s) (terms_term s) (terms_course s)
 
 -- ---- the hours list behind a year y
 
@@ -84,7 +84,7 @@ module _ (y : Year) (s : List ℕ) where
 
   pub terms_same : (k : ℕ) (z : Year) → gathered (hours_entry s) y k ≡ done z → SameTerms k z
   terms_same =
-      gathered-keeps (hours_entry s) y SameTerms (refl, refl) (λ k z t p e. absurd (course_no_term (hours_record s (k * 16) z.courses z.terms) t e)) (λ k z c p e. p)
+      gathered_keeps (hours_entry s) y SameTerms (refl, refl) (λ k z t p e. absurd (course_no_term (hours_record s (k * 16) z.courses z.terms) t e)) (λ k z c p e. p)
 
   -- the year of its first k records
   pub record Hours (k : ℕ) (z : Year) : Type 0 where
@@ -93,9 +93,9 @@ module _ (y : Year) (s : List ℕ) where
     pub within : z.terms ≡ y.terms
     pub each : (i : ℕ) → i < k → HoursHeld s (i * 16) y.terms (course_at z i)
 
-  hours-course : (k : ℕ) (z : Year) (c : Course) → Hours k z → hours_entry s k z ≡ OfCourse c → Hours (suc k) (add_course z c)
-  hours-course k z c p e = record {
-    begun = begun-course z c p.begun r.room (rw (sym r.held.held.holds) r.held.held.sound);
+  hours_course : (k : ℕ) (z : Year) (c : Course) → Hours k z → hours_entry s k z ≡ OfCourse c → Hours (suc k) (add_course z c)
+  hours_course k z c p e = record {
+    begun = begun_course z c p.begun r.room (rw (sym r.held.held.holds) r.held.held.sound);
     count = omega (arith, p.count);
     within = p.within;
     each = λ i h. at i h (ℕ_discrete i k);
@@ -105,14 +105,14 @@ module _ (y : Year) (s : List ℕ) where
       r = hours_read s (k * 16) z.courses z.terms c (of_course_lem (hours_record s (k * 16) z.courses z.terms) c e)
 
       at : (i : ℕ) → i < suc k → Dec (i ≡ k) → HoursHeld s (i * 16) y.terms (course_at (add_course z c) i)
-      at i h (yes q) = rw (course-added z c p.begun r.room i (q ∙ sym p.count), q, sym p.within) r.held
+      at i h (yes q) = rw (course_added z c p.begun r.room i (q ∙ sym p.count), q, sym p.within) r.held
       at i h (no d) =
           let other : i ≡ z.courses → ⊥ = λ q. d (q ∙ p.count) in
-          rw (course-before z c p.begun r.room i other) (p.each i (omega (arith, d)))
+          rw (course_before z c p.begun r.room i other) (p.each i (omega (arith, d)))
 
-  pub hours-so-far : Begun y → y.courses ≡ 0 → (k : ℕ) (z : Year) → gathered (hours_entry s) y k ≡ done z → Hours k z
-  hours-so-far b none =
-      gathered-keeps (hours_entry s) y Hours (record { begun = b; count = none; within = refl; each = λ i h. absurd (omega arith) }) (λ k z t p e. absurd (course_no_term (hours_record s (k * 16) z.courses z.terms) t e)) hours-course
+  pub hours_so_far : Begun y → y.courses ≡ 0 → (k : ℕ) (z : Year) → gathered (hours_entry s) y k ≡ done z → Hours k z
+  hours_so_far b none =
+      gathered_keeps (hours_entry s) y Hours (record { begun = b; count = none; within = refl; each = λ i h. absurd (omega arith) }) (λ k z t p e. absurd (course_no_term (hours_record s (k * 16) z.courses z.terms) t e)) hours_course
 
 -- ---- each list as a whole
 
@@ -129,7 +129,7 @@ pub terms_done : (s : List ℕ) → (term_list s).answer ≡ reading.Done
     → Terms s (length s / 16) (term_list s).year × (1 ≤ length s / 16) × (length s / 16 * 16 ≡ length s)
 unfolding term_list
 terms_done s e =
-    let d = listed-done (bad_length (length s)) (term_entry s) blank_year (length s / 16) e in
+    let d = listed_done (bad_length (length s)) (term_entry s) blank_year (length s / 16) e in
     let g = length_good (length s) d.0 in
     (terms_so_far s (length s / 16) _ d.1, g.0, g.1)
 
@@ -145,37 +145,37 @@ pub hours_done : (y : Year) (s : List ℕ) → Begun y → y.courses ≡ 0 → (
     → (z : Year) × Hours y s (length s / 16) z × SameTerms y s (length s / 16) z × (length s / 16 * 16 ≡ length s) × (with_sums z ≡ (hours_list y s).year)
 unfolding hours_list
 hours_done y s b none e =
-    let d = listed-done (bad_hours (length s)) (hours_entry s) y (length s / 16) e in
-    (_, hours-so-far y s b none (length s / 16) _ d.1, terms_same y s (length s / 16) _ d.1, (hours_good (length s) d.0).0, refl)
+    let d = listed_done (bad_hours (length s)) (hours_entry s) y (length s / 16) e in
+    (_, hours_so_far y s b none (length s / 16) _ d.1, terms_same y s (length s / 16) _ d.1, (hours_good (length s) d.0).0, refl)
 
 -- refused, either hands back the empty year, and the place is one of its records or 0
 pub terms_refused : (s : List ℕ) (f : Fault) (k : ℕ) → (term_list s).answer ≡ reading.Refused f k → ((term_list s).year ≡ empty_year) × (k ≤ 80)
 unfolding term_list
 terms_refused s f k e =
-    let r = listed-refused (bad_length (length s)) (term_entry s) blank_year (length s / 16) f k e in
+    let r = listed_refused (bad_length (length s)) (term_entry s) blank_year (length s / 16) f k e in
     (ap (λ (r : Received). r.year) r.0, ⊎_elim (λ q. omega (arith, q.2)) (λ q. omega (arith, q.1, (length_good (length s) q.0).2)) r.1)
 
 pub hours_refused : (y : Year) (s : List ℕ) (f : Fault) (k : ℕ) → (hours_list y s).answer ≡ reading.Refused f k → ((hours_list y s).year ≡ empty_year) × (k ≤ 80)
 unfolding hours_list
 hours_refused y s f k e =
-    let r = listed-refused (bad_hours (length s)) (hours_entry s) y (length s / 16) f k e in
+    let r = listed_refused (bad_hours (length s)) (hours_entry s) y (length s / 16) f k e in
     (ap (λ (r : Received). r.year) (ap summed r.0 ∙ summed_refused f k), ⊎_elim (λ q. omega (arith, q.2)) (λ q. omega (arith, q.1, (hours_good (length s) q.0).1)) r.1)
 
 -- ---- both
 
 -- the endings of the two lists, as endings of the joining
 module _ (t h : List ℕ) (front : Received) (is : front ≡ term_list t) where
-  pub join-behind : front.answer ≡ reading.Done → with_hours front.year h ≡ join_of t h
+  pub join_behind : front.answer ≡ reading.Done → with_hours front.year h ≡ join_of t h
   unfolding join_of
-  join-behind e = rw (sym is, e) refl
+  join_behind e = rw (sym is, e) refl
 
-  pub join-in-terms : (f : Fault) (k : ℕ) → front.answer ≡ reading.Refused f k → record { answer = InTerms f k; year = front.year } ≡ join_of t h
+  pub join_in_terms : (f : Fault) (k : ℕ) → front.answer ≡ reading.Refused f k → record { answer = InTerms f k; year = front.year } ≡ join_of t h
   unfolding join_of
-  join-in-terms f k e = rw (sym is, e) refl
+  join_in_terms f k e = rw (sym is, e) refl
 
   -- what the hours stand behind is sound, with no course
-  pub front-sound : front.answer ≡ reading.Done → Sound front.year × (front.year.courses ≡ 0)
-  front-sound e =
+  pub front_sound : front.answer ≡ reading.Done → Sound front.year × (front.year.courses ≡ 0)
+  front_sound e =
       let d : (term_list t).answer ≡ reading.Done = sym (ap (λ (r : Received). r.answer) is) ∙ e in
       rw is (terms_sound t d, (terms_done t d).0.no_course)
 

@@ -17,9 +17,9 @@ use Rattle.records.specs.declared.AsTerm.TheVariants as asTerm
 use Rattle.records.specs.declared.Reading.{Reading}
 use Rattle.records.specs.declared.Reading.TheVariants as reading
 use Rattle.records.specs.declared.Received.{Received}
-use Rattle.records.proofs.EntryLaws.{at-term, at-neither}
+use Rattle.records.proofs.EntryLaws.{at_term, at_neither}
 use Rattle.year.proofs.SoundLaws.{with_sums_same}
-use Rattle.records.proofs.GatherLaws.{is_done, gathered-same, summed_refused}
+use Rattle.records.proofs.GatherLaws.{is_done, gathered_same, summed_refused}
 use Rattle.hours.specs.declared.Joining.{Joining}
 use Rattle.hours.specs.declared.Joining.TheVariants.{Done, InTerms}
 use Rattle.hours.specs.Entries.{term_alone}
@@ -32,8 +32,8 @@ unfolding term_alone
 entry_same s k y no_course none = go (eqb (letter_at s (k * 16)) 84) refl
   where
     go : (a : Bool) → eqb (letter_at s (k * 16)) 84 ≡ a → of_term (choose a (term_record s (k * 16) y.terms) (asTerm.Faulty fault.Letter)) ≡ record_in s k y
-    go true p = sym (at-term s (k * 16) y.terms y.courses (rw (p, none) refl))
-    go false p = sym (at-neither s (k * 16) y.terms y.courses (rw p refl) (rw (ne_eqb (letter_at s (k * 16)) 67 no_course) refl))
+    go true p = sym (at_term s (k * 16) y.terms y.courses (rw (p, none) refl))
+    go false p = sym (at_neither s (k * 16) y.terms y.courses (rw p refl) (rw (ne_eqb (letter_at s (k * 16)) 67 no_course) refl))
 
 -- a list of terms hands back a year with its sums, done or refused
 terms_summed : (s : List ℕ) → with_sums (term_list s).year ≡ (term_list s).year
@@ -51,7 +51,7 @@ terms_as_read s no_course =
     let same = sym (terms_summed s) in
     (λ i. record { answer = (term_list s).answer; year = same i })
     ∙ ap (λ (r : Received). summed (choose (bad_length (length s)) (refused fault.Length 0) r))
-    (gathered-same (term_entry s) (record_in s) blank_year (length s / 16) (λ k y l e. entry_same s k y (no_course k l) (terms_so_far s k y e).no_course))
+    (gathered_same (term_entry s) (record_in s) blank_year (length s / 16) (λ k y l e. entry_same s k y (no_course k l) (terms_so_far s k y e).no_course))
 
 -- a list of terms that is done reads to the same year
 pub terms_read : (s : List ℕ) → (term_list s).answer ≡ reading.Done → read_list s ≡ done (term_list s).year

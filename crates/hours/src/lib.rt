@@ -1,4 +1,5 @@
 // The registrar's hours list: joined to a list of terms it gives a year. Records of 16 bytes, hours and no credits.
+#![tactic(auto)]
 mod entries;
 mod lists;
 
@@ -9,25 +10,25 @@ use records::{Fault, Reading};
 use year::Year;
 
 // The editions of the handbook by which hours are weighed.
-#[derive(Drop)]
+#[derive(Clone, Copy)]
 pub enum Edition {
     First,
     Second,
 }
 
 // A number of hours, as the registrar sends them. No number of credits before it is weighed.
-#[derive(Drop)]
+#[derive(Clone, Copy)]
 pub struct Hours(pub u32);
 
 // How a joining ended: done, or refused by the first fault of the terms' list or of the hours list, with its record's place there.
-#[derive(Drop)]
+#[derive(Clone, Copy)]
 pub enum Joining {
     Done,
     InTerms(Fault, usize),
     InHours(Fault, usize),
 }
 
-#[derive(Drop)]
+#[derive(Clone, Copy)]
 pub struct Joined {
     pub answer: Joining,
     pub year: Year,

@@ -1,4 +1,5 @@
 // Reads one list of records from standard input and writes its listing.
+#![tactic(auto)]
 fn main() {
     let mut buf = io::buffer();
     let n = io::read_full(0, &mut buf);

@@ -14,7 +14,7 @@ use Rattle.year.specs.declared.Sums.{Sums}
 use Rattle.year.specs.declared.Term.{Term}
 use Rattle.year.specs.declared.Year.{Year}
 use Rattle.year.proofs.DoorLaws.{list_other}
-use Rattle.year.proofs.SumLaws.{possible_le, all_credits_le, sums-read}
+use Rattle.year.proofs.SumLaws.{possible_le, all_credits_le, sums_read}
 use Rattle.rules.specs.Step.{goes, then, step, live, judged, next, over_to, Step, joined}
 use Rattle.theory.proofs.FoldLaws.{fold_more}
 use Rattle.rules.specs.Lists.{verdict3, verdict10}
@@ -24,7 +24,7 @@ use Rattle.rules.proofs.Narrows.{Narrows, narrows_rest, narrows_over, Lawful}
 use Rattle.rules.proofs.Steps.{judged_narrows}
 use Rattle.frame.specs.State.{held, year_in, step_in}
 use Rattle.frame.specs.declared.State.{State}
-use Rattle.frame.proofs.VerdictLaws.{UnderVerdict, under-verdict}
+use Rattle.frame.proofs.VerdictLaws.{UnderVerdict, under_verdict}
 use Rattle.lists.specs.TermVerdict.{course_verdict, course_judged}
 use Rattle.lists.specs.declared.TermVerdict.{TermVerdict}
 use Rattle.lists.specs.declared.TermVerdict.TheVariants.{Nothing, ByCredits, ByCounts, NoPlan}
@@ -123,8 +123,8 @@ module _ (w : TermVerdict) (ws : List ℕ) (s : State) (j i : ℕ) (z : State) (
   narrows : Narrows y t
   narrows = narrows_over (course_judged w j) y.courses y (live y) (lawful w y.terms y.courses j j-in) (narrows_rest y 0 sound) i (omega arith)
 
-  sound-now : Sound t.year
-  sound-now = narrows.year.sound
+  sound_now : Sound t.year
+  sound_now = narrows.year.sound
 
   inside : i < t.year.courses
   inside = omega (arith, narrows.year.courses_same)
@@ -133,16 +133,16 @@ module _ (w : TermVerdict) (ws : List ℕ) (s : State) (j i : ℕ) (z : State) (
   course : c ≡ course_at t.year i
   course = is ∙ sym (o.course_same i (omega arith))
 
-  sums-now : sums_in z.sums j ≡ sums_at t.year j
-  sums-now = ap (λ (q : State). sums_in q.sums j) inv ∙ sums-read t.year t.year.sums sound-now.sums_kept j (omega (arith, sound))
+  sums_now : sums_in z.sums j ≡ sums_at t.year j
+  sums_now = ap (λ (q : State). sums_in q.sums j) inv ∙ sums_read t.year t.year.sums sound_now.sums_kept j (omega (arith, sound))
 
   fixed_is : (sums_in z.sums j).fixed.0 ≡ fixed_credits t.year j
   unfolding sums_at
-  fixed_is = ap (λ (u : Sums). u.fixed.0) sums-now
+  fixed_is = ap (λ (u : Sums). u.fixed.0) sums_now
 
   possible_is : (sums_in z.sums j).possible.0 ≡ possible_credits t.year j
   unfolding sums_at
-  possible_is = ap (λ (u : Sums). u.possible.0) sums-now
+  possible_is = ap (λ (u : Sums). u.possible.0) sums_now
 
   -- the verdict by the sums at hand is that by the sums read anew
   same : v ≡ verdict_at w j t.year i
@@ -160,6 +160,6 @@ module _ (w : TermVerdict) (ws : List ℕ) (s : State) (j i : ℕ) (z : State) (
 
   pub turn_at : Turn w ws s j i z c
   turn_at = record {
-    p_small = rw (course, fixed_is) (small t.year i j sound-now inside);
-    under = subst (UnderVerdict v i j c z) after (under-verdict (joined (step_in ws s) t) sound-now o.goes_on i j inside c course v is_open_lem z inv);
+    p_small = rw (course, fixed_is) (small t.year i j sound_now inside);
+    under = subst (UnderVerdict v i j c z) after (under_verdict (joined (step_in ws s) t) sound_now o.goes_on i j inside c course v is_open_lem z inv);
   }

@@ -34,22 +34,22 @@ larger_second true heaviest w e = omega (arith, ltb-false heaviest w e)
 larger_second false heaviest w e = omega arith
 
 module _ (w l : List ℕ) where
-  heaviest-more : (n j : ℕ) → heaviest_to w l (n + 1) j ≡ max (heaviest_to w l n j) (open_weight w l j n)
+  heaviest_more : (n j : ℕ) → heaviest_to w l (n + 1) j ≡ max (heaviest_to w l n j) (open_weight w l j n)
   unfolding heaviest_to
-  heaviest-more n j = rw add-one
+  heaviest_more n j = rw add-one
 
-  pub heaviest-all-more : (n : ℕ) → tab 16 (heaviest_with (tab 16 (heaviest_in w l n)) (course_in w l n)) ≡ tab 16 (heaviest_in w l (n + 1))
-  heaviest-all-more n =
+  pub heaviest_all_more : (n : ℕ) → tab 16 (heaviest_with (tab 16 (heaviest_in w l n)) (course_in w l n)) ≡ tab 16 (heaviest_in w l (n + 1))
+  heaviest_all_more n =
       tab_cong 16 (heaviest_with (tab 16 (heaviest_in w l n)) (course_in w l n)) (heaviest_in w l (n + 1))
       (λ k h.
-      let e = ap (λ (x : Credits). max x.0 (open_weight w l k n)) (get_or_tab 16 (heaviest_in w l n) (record { 0 = 0 }) k h) ∙ sym (heaviest-more n k) in
+      let e = ap (λ (x : Credits). max x.0 (open_weight w l k n)) (get_or_tab 16 (heaviest_in w l n) (record { 0 = 0 }) k h) ∙ sym (heaviest_more n k) in
       λ i. record { 0 = e i })
 
   -- it bounds every open course
-  pub heaviest-bounds : (n j i : ℕ) → i < n → open_weight w l j i ≤ heaviest_to w l n j
+  pub heaviest_bounds : (n j i : ℕ) → i < n → open_weight w l j i ≤ heaviest_to w l n j
   unfolding heaviest_to
-  heaviest-bounds zero j i h = absurd (omega arith)
-  heaviest-bounds (suc n) j i h = go (ℕ_discrete i n) (λ q. heaviest-bounds n j i q)
+  heaviest_bounds zero j i h = absurd (omega arith)
+  heaviest_bounds (suc n) j i h = go (ℕ_discrete i n) (λ q. heaviest_bounds n j i q)
     where
       go : Dec (i ≡ n) → (i < n → open_weight w l j i ≤ heaviest_to w l n j) → open_weight w l j i ≤ heaviest_to w l (suc n) j
       go (yes e) ih = rw e (omega arith)
@@ -63,8 +63,8 @@ heaviest_most y (suc n) j s h =
 
 -- a course that is open in a later year was open before it
 module _ (y : Year) (t : Step) (w : Narrows y t) (i j : ℕ) (h : i < y.courses) where
-  was-open : is_open (course_at t.year i) j ≡ true → is_open (course_at y i) j ≡ true
-  was-open e =
+  was_open : is_open (course_at t.year i) j ≡ true → is_open (course_at y i) j ≡ true
+  was_open e =
       let l = list t.year i in
       let p = and_true (lists (course_at t.year i) j) (not (is_fixed (course_at t.year i) j)) e in
       let listed : has l j ≡ true = p.0 in
@@ -73,14 +73,14 @@ module _ (y : Year) (t : Step) (w : Narrows y t) (i j : ℕ) (h : i < y.courses)
       let inside : l < 2 ^ t.year.terms = (w.year.sound.course_sound i (omega (arith, w.year.courses_same))).list_within in
       let r = has_some t.year.terms (l - 2 ^ j) (omega (arith, ne)) (omega arith) in
       let other = and_true (has l r.0) (not (eqb r.0 j)) (sym (has_struck l j r.0 listed) ∙ r.2) in
-      let not-alone : list y i ≡ 2 ^ j → ⊥ = λ q.
+      let not_alone : list y i ≡ 2 ^ j → ⊥ = λ q.
       let k : eqb r.0 j ≡ true = sym (has_power j r.0) ∙ ap (λ x. has x r.0) (sym q) ∙ w.year.lists_less i r.0 other.0 in
       true≢false (sym other.1 ∙ ap not k) in
-      and_of (lists (course_at y i) j) (not (is_fixed (course_at y i) j)) (w.year.lists_less i j listed) (ap not (ne_eqb (list y i) (2 ^ j) not-alone))
+      and_of (lists (course_at y i) j) (not (is_fixed (course_at y i) j)) (w.year.lists_less i j listed) (ap not (ne_eqb (list y i) (2 ^ j) not_alone))
 
-  pub open-less : open_weight t.year.weight t.year.list j i ≤ open_weight y.weight y.list j i
-  open-less = go (is_open (course_at t.year i) j) refl
+  pub open_less : open_weight t.year.weight t.year.list j i ≤ open_weight y.weight y.list j i
+  open_less = go (is_open (course_at t.year i) j) refl
     where
       go : (b : Bool) → is_open (course_at t.year i) j ≡ b → pick b (weight t.year i) ≤ open_weight y.weight y.list j i
-      go true e = rw (was-open e) (omega (arith, ap (λ v. get_or v i 0) w.year.weight_same))
+      go true e = rw (was_open e) (omega (arith, ap (λ v. get_or v i 0) w.year.weight_same))
       go false e = omega arith

@@ -1,6 +1,6 @@
 -- A term of rules 3 and 10 under its verdict: what the code makes of it is what the rule does there.
 use Prim.Native.Nat.{ℕ, zero, suc, ◌+◌, ◌-◌, ◌≤◌, ◌<◌}
-use mathlib.Core.Bool.{Bool, true, false, ◌&&◌, ◌||◌, or_false}
+use mathlib.Core.Bool.{Bool, true, false, ◌&&◌, ◌||◌, or-false}
 use mathlib.Core.List.{List}
 use mathlib.Core.Path.{◌≡◌, refl, sym, ap, ◌∙◌}
 use native.Mathlib.Omega.{arith}
@@ -41,7 +41,7 @@ module _ (ws : List ℕ) (s : State) (w : TermVerdict) (j : ℕ) (z : s.rule ≡
   -- no plan
   pub no_plan : (r : ℕ) → w ≡ NoPlan r
       → record { terms = s.terms; courses = s.courses; term = s.term; list = s.list; sums = s.sums; altered = s.altered; rule = r } ≡ after
-  no_plan r q = rw (q, z) (λ i. held (step (year_in ws s) (sym (or_false s.altered) i) r))
+  no_plan r q = rw (q, z) (λ i. held (step (year_in ws s) (sym (or-false s.altered) i) r))
 
   -- its courses
   pub courses_are : ((r : ℕ) → w ≡ NoPlan r → ⊥) → held (joined (step_in ws s) (over_courses (course_judged w j) (live (year_in ws s)))) ≡ after

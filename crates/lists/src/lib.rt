@@ -1,4 +1,5 @@
 // Rules 3 and 10: they go through the courses of each term and strike the term from lists, or leave it alone there.
+#![tactic(auto)]
 mod courses;
 mod heaviest;
 mod terms;
@@ -14,7 +15,7 @@ use frame::State;
 
 // What a rule says of a whole term, beside `Verdict`, what it says of a course: nothing, as no course has a verdict; its courses
 // have theirs by credits (rule 3), or by counts (rule 10), where the term is full or needs all; or there is no plan, by that rule.
-#[derive(Drop)]
+#[derive(Clone, Copy)]
 pub enum TermVerdict {
     Nothing,
     ByCredits,

@@ -12,14 +12,14 @@ use Rattle.theory.specs.Choice.{choose}
 use Rattle.theory.specs.Order.{lighter, rank, order, keep}
 use Rattle.theory.specs.Sum.{weigh}
 use Rattle.theory.specs.Neighbours.{fires}
-use Rattle.theory.proofs.OrderLaws.{weight_key, lightness, lighter-keyed, lighter-rises, lighter-up, rank-within, order-at, placed}
+use Rattle.theory.proofs.OrderLaws.{weight_key, lightness, lighter_keyed, lighter_rises, lighter_up, rank_within, order_at, placed}
 use Rattle.theory.proofs.WalkLaws.{Up}
 use Rattle.rules.specs.declared.Verdict.TheVariants.{Stays, Struck, Fixed}
 use Rattle.orders.proofs.OrderLaws.{order_long}
 use Rattle.neighbours.specs.Lightest.{upto, Rising, left_out, Lent, fires_by, Calm, Quiet}
 use Rattle.neighbours.specs.Opened.{at, open_in, opened, Ordered, Gathers}
 use Rattle.neighbours.specs.Verdicts.{rising_in, set_in, rest_in, verdict_in, verdict_by, Columns}
-use Rattle.neighbours.proofs.SetLaws.{Apart, Weighed, upto_more, rising_of, rising_same, lent-all, fires-all, lent-rest, fires-rest, calm-still, quiet_same, quiet_still}
+use Rattle.neighbours.proofs.SetLaws.{Apart, Weighed, upto_more, rising_of, rising_same, lent_all, fires_all, lent_rest, fires_rest, calm_still, quiet_same, quiet_still}
 use Rattle.neighbours.proofs.GatheringLaws.{kept_from, keep_short, keep_light}
 
 -- ---- what is kept of a list
@@ -76,36 +76,36 @@ module _ (weight list : List ℕ) (n : ℕ) (c : Columns weight list n) where
   abbrev key : ℕ → ℕ
   key = weight_key (lightness (at weight) n)
 
-  order-length : length o ≡ 64
-  order-length = order_long (lighter (at weight)) n n
+  order_length : length o ≡ 64
+  order_length = order_long (lighter (at weight)) n n
 
   -- each place holds one of the n courses, and no two the same
   place_at : (r : ℕ) → r < n → (at o r < n)
-  place_at r l = let a = placed (lighter (at weight)) n key (lighter-keyed (at weight) n c.few) r l in omega (arith, a.1, a.3)
+  place_at r l = let a = placed (lighter (at weight)) n key (lighter_keyed (at weight) n c.few) r l in omega (arith, a.1, a.3)
 
-  place-apart : (r q : ℕ) → r < n → q < n → at o r ≡ at o q → r ≡ q
-  place-apart r q l m e =
-      let a = placed (lighter (at weight)) n key (lighter-keyed (at weight) n c.few) r l in
-      let b = placed (lighter (at weight)) n key (lighter-keyed (at weight) n c.few) q m in
+  place_apart : (r q : ℕ) → r < n → q < n → at o r ≡ at o q → r ≡ q
+  place_apart r q l m e =
+      let a = placed (lighter (at weight)) n key (lighter_keyed (at weight) n c.few) r l in
+      let b = placed (lighter (at weight)) n key (lighter_keyed (at weight) n c.few) q m in
       let same : a.0 ≡ b.0 = sym a.3 ∙ e ∙ b.3 in
       sym a.2 ∙ ap (rank (lighter (at weight)) n) same ∙ b.2
 
   pub ordered : Ordered weight list o n
   ordered = record {
     few = c.few;
-    long = omega (arith, order-length, c.few);
+    long = omega (arith, order_length, c.few);
     weighed = λ r l. omega (arith, place_at r l, c.weighed);
     listed = λ r l. omega (arith, place_at r l, c.listed);
     numbered = λ r l. omega (arith, place_at r l, c.few);
     light = λ r l. c.light (at o r) (place_at r l);
-    apart = place-apart;
+    apart = place_apart;
   }
 
   -- course i stands somewhere
   pub stands : (i : ℕ) → i < n → (r : ℕ) × (r < n) × (at o r ≡ i)
   stands i l =
-      let k = lighter-keyed (at weight) n c.few in
-      (rank (lighter (at weight)) n i, rank-within (lighter (at weight)) n key k i l, order-at (lighter (at weight)) n key k i l)
+      let k = lighter_keyed (at weight) n c.few in
+      (rank (lighter (at weight)) n i, rank_within (lighter (at weight)) n key k i l, order_at (lighter (at weight)) n key k i l)
 
   -- ---- the open courses of a term
 
@@ -114,16 +114,16 @@ module _ (weight list : List ℕ) (n : ℕ) (c : Columns weight list n) where
     set = set_in weight list n j
 
     front_long : length (take n o) ≡ n
-    front_long = length-take-le n o (omega (arith, order-length, c.few))
+    front_long = length-take-le n o (omega (arith, order_length, c.few))
 
-    pub set-up : Up (at weight) 0 set
-    set-up = lighter-up (at weight) n c.few (open_in weight list j)
+    pub set_up : Up (at weight) 0 set
+    set_up = lighter_up (at weight) n c.few (open_in weight list j)
 
-    pub set-few : length set ≤ 64
-    set-few = omega (arith, keep_short (open_in weight list j) (take n o), front_long, c.few)
+    pub set_few : length set ≤ 64
+    set_few = omega (arith, keep_short (open_in weight list j) (take n o), front_long, c.few)
 
-    pub set-small : upto (at weight) set (length set) ≤ 64000
-    set-small =
+    pub set_small : upto (at weight) set (length set) ≤ 64000
+    set_small =
         omega (
           arith,
           ap (weigh (at weight)) (take-length set),
@@ -135,17 +135,17 @@ module _ (weight list : List ℕ) (n : ℕ) (c : Columns weight list n) where
 
     -- what is kept of a list with no two the same has no two the same
     pub set_apart : Apart set
-    set_apart = keep_apart (open_in weight list j) (take n o) apart-front
+    set_apart = keep_apart (open_in weight list j) (take n o) apart_front
       where
-        apart-front : Apart (take n o)
-        apart-front r q l m e =
+        apart_front : Apart (take n o)
+        apart_front r q l m e =
             let a : r < n = omega (arith, front_long) in
             let b : q < n = omega (arith, front_long) in
-            place-apart r q a b (sym (get_or-take n o r 0 a) ∙ e ∙ get_or-take n o q 0 b)
+            place_apart r q a b (sym (get_or-take n o r 0 a) ∙ e ∙ get_or-take n o q 0 b)
 
     -- an open course stands among them
-    pub stands-open : (i : ℕ) → i < n → open_in weight list j i ≡ true → (r : ℕ) × (r < length set) × (get_or set r 0 ≡ i)
-    stands-open i l e =
+    pub stands_open : (i : ℕ) → i < n → open_in weight list j i ≡ true → (r : ℕ) × (r < length set) × (get_or set r 0 ≡ i)
+    stands_open i l e =
         let a = stands i l in
         let is : get_or (take n o) a.0 0 ≡ i = get_or-take n o a.0 0 a.1 ∙ a.2 in
         let b = kept_at (open_in weight list j) (take n o) a.0 (omega (arith, a.1, front_long)) (ap (open_in weight list j) is ∙ e) in
@@ -160,38 +160,38 @@ module _ (weight list : List ℕ) (n : ℕ) (c : Columns weight list n) where
 
     -- ---- verdicts
 
-    pub closed-stays : (a b i : ℕ) → open_in weight list j i ≡ false → verdict_in weight list n j a b i ≡ Stays
-    closed-stays a b i e = rw e
+    pub closed_stays : (a b i : ℕ) → open_in weight list j i ≡ false → verdict_in weight list n j a b i ≡ Stays
+    closed_stays a b i e = rw e
 
     -- every course stays where nothing shows, whichever is left out
-    still-stays : (a b : ℕ)
+    still_stays : (a b : ℕ)
         → ((r i : ℕ) → Apart set → r < length set → get_or set r 0 ≡ i
         → (at weight i ≤ b) × (fires (at weight) (rest_in weight list n j i) (a - at weight i) (b - at weight i) ≡ false) × (fires (at weight) (rest_in weight list n j i) a b ≡ false))
         → (i : ℕ) → i < n → verdict_in weight list n j a b i ≡ Stays
-    still-stays a b still i l = go (open_in weight list j i) refl
+    still_stays a b still i l = go (open_in weight list j i) refl
       where
         go : (o : Bool) → open_in weight list j i ≡ o → verdict_in weight list n j a b i ≡ Stays
-        go false e = closed-stays a b i e
+        go false e = closed_stays a b i e
         go true e =
-            let r = stands-open i l e in
+            let r = stands_open i l e in
             let f = still r.0 i set_apart r.1 r.2 in
             rw (e, le-ltb b (at weight i) f.0, f.1, f.2)
 
     -- where their sums are calm
-    pub calm-says : (s a b : ℕ) → Calm (upto (at weight) set) (length set) s b → 0 < s → b + 1 ≡ a + s
+    pub calm_says : (s a b : ℕ) → Calm (upto (at weight) set) (length set) s b → 0 < s → b + 1 ≡ a + s
         → (fires (at weight) set a b ≡ false) × ((i : ℕ) → i < n → verdict_in weight list n j a b i ≡ Stays)
-    calm-says s a b calm some wide =
-        let still = calm-still (at weight) set s a b set-up calm some wide in
-        (still.0, still-stays a b still.1)
+    calm_says s a b calm some wide =
+        let still = calm_still (at weight) set s a b set_up calm some wide in
+        (still.0, still_stays a b still.1)
 
     -- where they are quiet
-    pub quiet-says : (a b : ℕ) → Quiet (upto (at weight) set) (length set) a b → a ≤ b → (i : ℕ) → i < n → verdict_in weight list n j a b i ≡ Stays
-    quiet-says a b quiet range = still-stays a b (quiet_still (at weight) set a b set-up quiet range)
+    pub quiet_says : (a b : ℕ) → Quiet (upto (at weight) set) (length set) a b → a ≤ b → (i : ℕ) → i < n → verdict_in weight list n j a b i ≡ Stays
+    quiet_says a b quiet range = still_stays a b (quiet_still (at weight) set a b set_up quiet range)
 
     -- where no open course is heavier than what the term still takes, nor than the range is wide
-    pub light-calm : (top s b : ℕ) → ((i : ℕ) → i < n → open_in weight list j i ≡ true → at weight i ≤ top) → top ≤ s → top ≤ b
+    pub light_calm : (top s b : ℕ) → ((i : ℕ) → i < n → open_in weight list j i ≡ true → at weight i ≤ top) → top ≤ s → top ≤ b
         → Calm (upto (at weight) set) (length set) s b
-    light-calm top s b light l m t h =
+    light_calm top s b light l m t h =
         let x = light (at set t) (member t h).0 (member t h).1 in
         (omega (arith, upto_more (at weight) set t h), omega (arith, upto_more (at weight) set t h))
 
@@ -199,61 +199,61 @@ module _ (weight list : List ℕ) (n : ℕ) (c : Columns weight list n) where
 
     module _ (u p : List ℕ) (count : ℕ) (g : Gathers (at weight) set (record { count = count; upto = u; place = p })) where
       weighed : Weighed (at weight) set u
-      weighed = record { few = set-few; long = g.upto_long; sums = g.sums; up = set-up; small = set-small }
+      weighed = record { few = set_few; long = g.upto_long; sums = g.sums; up = set_up; small = set_small }
 
-      pub count-few : count ≤ 64
-      count-few = omega (arith, g.counted, set-few)
+      pub count_few : count ≤ 64
+      count_few = omega (arith, g.counted, set_few)
 
-      pub gathered-calm : (s b : ℕ) → Calm (at u) count s b → Calm (upto (at weight) set) (length set) s b
-      gathered-calm s b calm t l =
+      pub gathered_calm : (s b : ℕ) → Calm (at u) count s b → Calm (upto (at weight) set) (length set) s b
+      gathered_calm s b calm t l =
           let now : at u t ≡ upto (at weight) set t = g.sums t (omega arith) in
           let next : at u (t + 1) ≡ upto (at weight) set (t + 1) = g.sums (t + 1) (omega arith) in
           let last : at u (t - 1) ≡ upto (at weight) set (t - 1) = g.sums (t - 1) (omega arith) in
           let c = calm t (omega (arith, g.counted)) in
           (omega (arith, c), omega (arith, c))
 
-      pub gathered-quiet : (a b : ℕ) → Quiet (at u) count a b → Quiet (upto (at weight) set) (length set) a b
-      gathered-quiet a b quiet = quiet_same (length set) (at u) (upto (at weight) set) g.sums a b (subst (λ k. Quiet (at u) k a b) g.counted quiet)
+      pub gathered_quiet : (a b : ℕ) → Quiet (at u) count a b → Quiet (upto (at weight) set) (length set) a b
+      gathered_quiet a b quiet = quiet_same (length set) (at u) (upto (at weight) set) g.sums a b (subst (λ k. Quiet (at u) k a b) g.counted quiet)
 
-      pub gathered-rising : Rising count (at u)
-      gathered-rising = subst (λ k. Rising k (at u)) (sym g.counted) (rising_same (length set) (upto (at weight) set) (at u) (λ t l. sym (g.sums t l)) (rising_of (at weight) 0 set set-up))
+      pub gathered_rising : Rising count (at u)
+      gathered_rising = subst (λ k. Rising k (at u)) (sym g.counted) (rising_same (length set) (upto (at weight) set) (at u) (λ t l. sym (g.sums t l)) (rising_of (at weight) 0 set set_up))
 
-      pub gathered-small : at u count ≤ 64000
-      gathered-small = omega (arith, ap (at u) g.counted, g.sums (length set) (omega arith), set-small)
+      pub gathered_small : at u count ≤ 64000
+      gathered_small = omega (arith, ap (at u) g.counted, g.sums (length set) (omega arith), set_small)
 
-      pub all-lent : Lent u count count 0
-      all-lent = subst (λ k. Lent u k k 0) (sym g.counted) (lent-all (at weight) set u weighed)
+      pub all_lent : Lent u count count 0
+      all_lent = subst (λ k. Lent u k k 0) (sym g.counted) (lent_all (at weight) set u weighed)
 
-      pub all-fires : (a b : ℕ) → fires_by (left_out u count 0) count a b ≡ fires (at weight) set a b
-      all-fires a b = ap (λ k. fires_by (left_out u k 0) k a b) g.counted ∙ fires-all (at weight) set u weighed a b
+      pub all_fires : (a b : ℕ) → fires_by (left_out u count 0) count a b ≡ fires (at weight) set a b
+      all_fires a b = ap (λ k. fires_by (left_out u k 0) k a b) g.counted ∙ fires_all (at weight) set u weighed a b
 
       -- an open course, by its place
       module _ (i : ℕ) (l : i < n) (e : open_in weight list j i ≡ true) where
         abbrev r : ℕ
-        r = (stands-open i l e).0
+        r = (stands_open i l e).0
 
         within : r < length set
-        within = (stands-open i l e).1
+        within = (stands_open i l e).1
 
         is : get_or set r 0 ≡ i
-        is = (stands-open i l e).2
+        is = (stands_open i l e).2
 
         place_is : at p i ≡ r
         place_is = ap (at p) (sym is) ∙ g.places r within
 
         pub place_few : at p i < 64
-        place_few = omega (arith, place_is, within, set-few)
+        place_few = omega (arith, place_is, within, set_few)
 
-        pub some-open : 0 < count
-        some-open = omega (arith, g.counted, within)
+        pub some_open : 0 < count
+        some_open = omega (arith, g.counted, within)
 
-        pub rest-lent : Lent u (count - 1) (at p i) (at weight i)
-        rest-lent = rw (g.counted, place_is) (lent-rest (at weight) set u weighed r i set_apart within is)
+        pub rest_lent : Lent u (count - 1) (at p i) (at weight i)
+        rest_lent = rw (g.counted, place_is) (lent_rest (at weight) set u weighed r i set_apart within is)
 
-        rest-fires : (a b : ℕ) → fires_by (left_out u (at p i) (at weight i)) (count - 1) a b ≡ fires (at weight) (rest_in weight list n j i) a b
-        rest-fires a b =
+        rest_fires : (a b : ℕ) → fires_by (left_out u (at p i) (at weight i)) (count - 1) a b ≡ fires (at weight) (rest_in weight list n j i) a b
+        rest_fires a b =
             ap₂ (λ k q. fires_by (left_out u q (at weight i)) (k - 1) a b) g.counted place_is
-            ∙ fires-rest (at weight) set u weighed r i set_apart within is a b
+            ∙ fires_rest (at weight) set u weighed r i set_apart within is a b
 
-        pub verdict-is : (a b : ℕ) → verdict_by u count (at p i) (at weight i) a b ≡ verdict_in weight list n j a b i
-        verdict-is a b = rw (e, rest-fires (a - at weight i) (b - at weight i), rest-fires a b)
+        pub verdict_is : (a b : ℕ) → verdict_by u count (at p i) (at weight i) a b ≡ verdict_in weight list n j a b i
+        verdict_is a b = rw (e, rest_fires (a - at weight i) (b - at weight i), rest_fires a b)

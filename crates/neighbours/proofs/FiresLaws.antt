@@ -46,16 +46,16 @@ module _ {n : ℕ} {q : ℕ → ℕ} (r : Rising n q) where
       rw is at (rises_by s (t - s) (omega arith))
 
   -- d of them further up weigh no less
-  further-up : (s t d : ℕ) → s ≤ t → t + d ≤ n → q (s + d) + q t ≤ q (t + d) + q s
-  further-up s t zero l h = omega (arith, ap q (add-zero s), ap q (add-zero t))
-  further-up s t (suc d) l h =
+  further_up : (s t d : ℕ) → s ≤ t → t + d ≤ n → q (s + d) + q t ≤ q (t + d) + q s
+  further_up s t zero l h = omega (arith, ap q (add-zero s), ap q (add-zero t))
+  further_up s t (suc d) l h =
       let low : s + suc d ≡ s + d + 1 = omega arith in
       let high : t + suc d ≡ t + d + 1 = omega arith in
-      rw (low, high) (omega (arith, further-up s t d l (omega arith), r.heavier (s + d) (t + d) (omega arith) (omega arith)))
+      rw (low, high) (omega (arith, further_up s t d l (omega arith), r.heavier (s + d) (t + d) (omega arith) (omega arith)))
 
   -- none weighs more than the last
-  one-is-most : (t : ℕ) → t < n → q (t + 1) + q (n - 1) ≤ q n + q t
-  one-is-most t h =
+  one_is_most : (t : ℕ) → t < n → q (t + 1) + q (n - 1) ≤ q n + q t
+  one_is_most t h =
       let is : n - 1 + 1 ≡ n = omega arith in
       rw is at (r.heavier t (n - 1) (omega arith) (omega arith))
 
@@ -107,7 +107,7 @@ gap {n} {q} r a b k' k e =
     let same : k' + 1 + k ≡ k' + (k + 1) = omega arith in
     let all : n - k + k ≡ n = omega arith in
     let up : q (k' + (k + 1)) + q (n - k) ≤ q n + q (k' + 1) =
-    rw (same, all) at (further-up r (k' + 1) (n - k) k (omega arith) (omega arith)) in
+    rw (same, all) at (further_up r (k' + 1) (n - k) k (omega arith) (omega arith)) in
     omega (arith, rises r (n - k) n (omega arith) (omega arith))
 
 -- ---- where nothing is left to try
@@ -155,7 +155,7 @@ pub near_heaviest :
     → k' ≤ i
     → i < n
     → any n (neighbours_by q n a b i) ≡ false
-near_heaviest {n} {q} r a b k' l h i m o = no_gap r a b i l (omega (arith, one-is-most r i o, rises r k' i m (omega arith)))
+near_heaviest {n} {q} r a b k' l h i m o = no_gap r a b i l (omega (arith, one_is_most r i o, rises r k' i m (omega arith)))
 
 -- ---- the tests of the code
 

@@ -97,8 +97,8 @@ module _ (weight list order : List ℕ) (n j k : ℕ) (o : Ordered weight list o
       let is : at order a.0 ≡ i = sym (get_or-take k order a.0 0 few) ∙ a.2 ∙ e in
       omega (arith, o.apart a.0 k (omega arith) l is)
 
-  opened-more : opened weight list order (k + 1) j ≡ before ++ choose (open_in weight list j i) (i ∷ []) []
-  opened-more =
+  opened_more : opened weight list order (k + 1) j ≡ before ++ choose (open_in weight list j i) (i ∷ []) []
+  opened_more =
       ap (keep (open_in weight list j)) (ap (λ m. take m order) (add-one k) ∙ take-suc order k 0 (omega (arith, o.long)))
       ∙ keep_more (open_in weight list j) (take k order) i
 
@@ -106,11 +106,11 @@ module _ (weight list order : List ℕ) (n j k : ℕ) (o : Ordered weight list o
     abbrev c : ℕ
     c = r.count
 
-    pub count-few : c ≤ k
-    count-few = omega (arith, g.counted, keep_short (open_in weight list j) (take k order), length-take-le k order (omega (arith, o.long)))
+    pub count_few : c ≤ k
+    count_few = omega (arith, g.counted, keep_short (open_in weight list j) (take k order), length-take-le k order (omega (arith, o.long)))
 
-    pub sum-light : at r.upto c ≤ 1000 * k
-    sum-light =
+    pub sum_light : at r.upto c ≤ 1000 * k
+    sum_light =
         let long = length-take-le k order (omega (arith, o.long)) in
         omega (
           arith,
@@ -126,13 +126,13 @@ module _ (weight list order : List ℕ) (n j k : ℕ) (o : Ordered weight list o
     abbrev stored : ℕ → Opened
     stored m = record { count = m; upto = set r.upto (c + 1) (at r.upto c + at weight i); place = set r.place i c }
 
-    kept-sum : (t : ℕ) → t ≤ c → at (stored c).upto t ≡ upto (at weight) before t
-    kept-sum t h =
+    kept_sum : (t : ℕ) → t ≤ c → at (stored c).upto t ≡ upto (at weight) before t
+    kept_sum t h =
         get_or-set_other r.upto (c + 1) t (at r.upto c + at weight i) 0 (λ e. omega arith)
         ∙ g.sums t (omega (arith, g.counted))
 
-    kept-place : (t : ℕ) → t < length before → at (stored c).place (at before t) ≡ t
-    kept-place t h = get_or-set_other r.place i (at before t) c 0 (other t h) ∙ g.places t h
+    kept_place : (t : ℕ) → t < length before → at (stored c).place (at before t) ≡ t
+    kept_place t h = get_or-set_other r.place i (at before t) c 0 (other t h) ∙ g.places t h
 
     upto_long : length (stored c).upto ≡ 65
     upto_long = length-set r.upto (c + 1) (at r.upto c + at weight i) ∙ g.upto_long
@@ -144,8 +144,8 @@ module _ (weight list order : List ℕ) (n j k : ℕ) (o : Ordered weight list o
     passed : Gathers (at weight) before (stored c)
     passed = record {
       counted = g.counted;
-      sums = λ t h. kept-sum t (omega (arith, g.counted));
-      places = kept-place;
+      sums = λ t h. kept_sum t (omega (arith, g.counted));
+      places = kept_place;
       upto_long = upto_long;
       place_long = place_long;
     }
@@ -174,18 +174,18 @@ module _ (weight list order : List ℕ) (n j k : ℕ) (o : Ordered weight list o
             let last : t ≡ c + 1 = omega (arith, long, g.counted) in
             let same : c + 1 ≡ length (before ++ i ∷ []) = omega (arith, long, g.counted) in
             ap (at (stored (c + 1)).upto) last
-            ∙ get_or-set_same r.upto (c + 1) (at r.upto c + at weight i) 0 (omega (arith, g.upto_long, count-few, o.few))
+            ∙ get_or-set_same r.upto (c + 1) (at r.upto c + at weight i) 0 (omega (arith, g.upto_long, count_few, o.few))
             ∙ ap (λ x. x + at weight i) (g.sums c (omega (arith, g.counted)) ∙ ap (upto (at weight) before) g.counted)
             ∙ sym all
             ∙ ap (upto (at weight) (before ++ i ∷ [])) (sym same ∙ sym last)
         sum t h (no d) =
-            kept-sum t (omega (arith, d))
+            kept_sum t (omega (arith, d))
             ∙ ap (weigh (at weight)) (sym (take-append-le t before (i ∷ []) (omega (arith, d, g.counted))))
 
         place : (t : ℕ) → t < length (before ++ i ∷ []) → Dec (t < c) → at (stored (c + 1)).place (at (before ++ i ∷ []) t) ≡ t
         place t h (yes d) =
             ap (at (stored (c + 1)).place) (get_or-append before (i ∷ []) 0 t (omega (arith, g.counted)))
-            ∙ kept-place t (omega (arith, g.counted))
+            ∙ kept_place t (omega (arith, g.counted))
         place t h (no d) =
             let last : t ≡ length before = omega (arith, long, d, g.counted) in
             ap (λ x. at (stored (c + 1)).place (at (before ++ i ∷ []) x)) last
@@ -195,16 +195,16 @@ module _ (weight list order : List ℕ) (n j k : ℕ) (o : Ordered weight list o
             ∙ sym last
 
     -- m is 1 where the course is open, and 0 where it is not
-    pub gathers-more : (m : ℕ) → (open_in weight list j i ≡ true → m ≡ 1) → (open_in weight list j i ≡ false → m ≡ 0)
+    pub gathers_more : (m : ℕ) → (open_in weight list j i ≡ true → m ≡ 1) → (open_in weight list j i ≡ false → m ≡ 0)
         → Gathers (at weight) (opened weight list order (k + 1) j) (stored (c + m))
-    gathers-more m one none = go (open_in weight list j i) refl
+    gathers_more m one none = go (open_in weight list j i) refl
       where
         go : (b : Bool) → open_in weight list j i ≡ b → Gathers (at weight) (opened weight list order (k + 1) j) (stored (c + m))
         go true e =
-            let is : opened weight list order (k + 1) j ≡ before ++ i ∷ [] = opened-more ∙ ap (λ b. before ++ choose b (i ∷ []) []) e in
+            let is : opened weight list order (k + 1) j ≡ before ++ i ∷ [] = opened_more ∙ ap (λ b. before ++ choose b (i ∷ []) []) e in
             subst (λ x. Gathers (at weight) x (stored (c + m))) (sym is) (subst (λ x. Gathers (at weight) (before ++ i ∷ []) (stored (c + x))) (sym (one e)) joined)
         go false e =
-            let is : opened weight list order (k + 1) j ≡ before = opened-more ∙ ap (λ b. before ++ choose b (i ∷ []) []) e ∙ append-nil before in
+            let is : opened weight list order (k + 1) j ≡ before = opened_more ∙ ap (λ b. before ++ choose b (i ∷ []) []) e ∙ append-nil before in
             let same : c + m ≡ c = omega (arith, none e) in
             subst (λ x. Gathers (at weight) x (stored (c + m))) (sym is) (subst (λ x. Gathers (at weight) before (stored x)) (sym same) passed)
 
@@ -231,9 +231,9 @@ module _ (n : ℕ) (q : ℕ → ℕ) (rising : Rising n q) (s b : ℕ) where
       whole n l = omega arith
 
   -- from a place on where the heaviest is no more than s and what all before the last weigh, nothing is
-  pub calm-from : (t : ℕ) → 0 < t → t < n → q n ≤ s + q (t - 1) + q (n - 1) → ((k : ℕ) → k < t → q (k + 1) ≤ s + q (k - 1) + q k)
+  pub calm_from : (t : ℕ) → 0 < t → t < n → q n ≤ s + q (t - 1) + q (n - 1) → ((k : ℕ) → k < t → q (k + 1) ≤ s + q (k - 1) + q k)
       → (k : ℕ) → k < n → q (k + 1) ≤ s + q (k - 1) + q k
-  calm-from t some l top flat k m = go (dec_lt k t)
+  calm_from t some l top flat k m = go (dec_lt k t)
     where
       whole : (n : ℕ) → 0 < n → n - 1 + 1 ≡ n
       whole n l = omega arith

@@ -1,6 +1,6 @@
 -- Rule 12 at a term by what is said of it, and a turn of the code's loop over the terms.
 use Prim.Native.Nat.{ℕ, zero, suc, ◌+◌, ◌≤◌, ◌<◌}
-use mathlib.Core.Bool.{Bool, true, false, ◌||◌, or_false}
+use mathlib.Core.Bool.{Bool, true, false, ◌||◌, or-false}
 use mathlib.Core.List.{List}
 use mathlib.Core.Path.{◌≡◌, refl, sym, ap, ap₂, subst, ◌∙◌}
 use native.Mathlib.Omega.{arith}
@@ -20,14 +20,14 @@ use Rattle.rules.proofs.ListsKept.{rule12_held}
 use Rattle.rules.proofs.Narrows.{Narrows}
 use Rattle.frame.specs.State.{held, year_in, step_in}
 use Rattle.frame.specs.declared.State.{State}
-use Rattle.frame.proofs.TermsAt.{went_on, narrows-at, year-at, sound-at, terms-at, same}
+use Rattle.frame.proofs.TermsAt.{went_on, narrows_at, year_at, sound_at, terms_at, same}
 use Rattle.orders.specs.declared.Orders.{Orders}
 use Rattle.orders.proofs.OrderLaws.{orders_weights}
 use Rattle.neighbours.specs.Opened.{open_in}
 use Rattle.neighbours.specs.Verdicts.{rising_in, Columns, Right, SaysOf}
 use Rattle.neighbours.specs.declared.Says.{Says}
 use Rattle.neighbours.specs.declared.Says.TheVariants.{Nothing, Courses, NoPlan}
-use Rattle.neighbours.proofs.YearLaws.{rising-is, verdict-read, cannot-read, columns_of, fixed_of, none_of}
+use Rattle.neighbours.proofs.YearLaws.{rising_is, verdict_read, cannot_read, columns_of, fixed_of, none_of}
 
 -- ---- at a term
 
@@ -40,18 +40,18 @@ over_still j y (suc n) h = ap (λ s. next (λ z i. judged z i j (verdict12 z j i
 says_nothing : (y : Year) (j : ℕ) → SaysOf y j Nothing → rule12 y j ≡ live y
 unfolding rule12
 says_nothing y j h =
-    ap (λ b. choose b (dead 12 y) (over_courses (rule12_course j) (live y))) (cannot-read y j ∙ h.0)
-    ∙ over_still j y y.courses (λ i l. verdict-read y j i ∙ h.1 i l)
+    ap (λ b. choose b (dead 12 y) (over_courses (rule12_course j) (live y))) (cannot_read y j ∙ h.0)
+    ∙ over_still j y y.courses (λ i l. verdict_read y j i ∙ h.1 i l)
 
 says_courses : (y : Year) (j : ℕ) (w : Says) → (w ≡ NoPlan → ⊥) → SaysOf y j w → rule12 y j ≡ over_courses (rule12_course j) (live y)
 unfolding rule12
-says_courses y j Nothing d h = ap (λ b. choose b (dead 12 y) (over_courses (rule12_course j) (live y))) (cannot-read y j ∙ h.0)
-says_courses y j Courses d h = ap (λ b. choose b (dead 12 y) (over_courses (rule12_course j) (live y))) (cannot-read y j ∙ h)
+says_courses y j Nothing d h = ap (λ b. choose b (dead 12 y) (over_courses (rule12_course j) (live y))) (cannot_read y j ∙ h.0)
+says_courses y j Courses d h = ap (λ b. choose b (dead 12 y) (over_courses (rule12_course j) (live y))) (cannot_read y j ∙ h)
 says_courses y j NoPlan d h = absurd (d refl)
 
 says_none : (y : Year) (j : ℕ) → SaysOf y j NoPlan → rule12 y j ≡ dead 12 y
 unfolding rule12
-says_none y j h = ap (λ b. choose b (dead 12 y) (over_courses (rule12_course j) (live y))) (cannot-read y j ∙ h)
+says_none y j h = ap (λ b. choose b (dead 12 y) (over_courses (rule12_course j) (live y))) (cannot_read y j ∙ h)
 
 -- ---- the code of one term
 
@@ -60,7 +60,7 @@ module _ (ws : List ℕ) (s : State) (j : ℕ) (w : Says) (z : s.rule ≡ 0) (h 
       → record { terms = s.terms; courses = s.courses; term = s.term; list = s.list; sums = s.sums; altered = s.altered; rule = 12 } ≡ held (next rule12 (step_in ws s) j)
   no_plan e =
       let none : rule12 (year_in ws s) j ≡ dead 12 (year_in ws s) = says_none (year_in ws s) j (subst (SaysOf (year_in ws s) j) e h) in
-      rw (z, none) (λ i. held (step (year_in ws s) (sym (or_false s.altered) i) 12))
+      rw (z, none) (λ i. held (step (year_in ws s) (sym (or-false s.altered) i) 12))
 
   pub courses_are : (w ≡ NoPlan → ⊥) → held (joined (step_in ws s) (over_courses (rule12_course j) (live (year_in ws s)))) ≡ held (next rule12 (step_in ws s) j)
   courses_are d = rw (z, says_courses (year_in ws s) j w d h) refl
@@ -77,18 +77,18 @@ module _ (ws : List ℕ) (s : State) (sound : Sound (year_in ws s)) (j : ℕ) (h
   abbrev y : Year
   y = year_in ws z
 
-  sound-z : Sound y
-  sound-z = sound-at rule12 narrows ws s sound alive j h z inv
+  sound_z : Sound y
+  sound_z = sound_at rule12 narrows ws s sound alive j h z inv
 
-  term-z : j < z.terms
-  term-z = terms-at rule12 narrows ws s sound alive j h z inv
+  term_z : j < z.terms
+  term_z = terms_at rule12 narrows ws s sound alive j h z inv
 
   courses_same : z.courses ≡ s.courses
-  courses_same = ap (λ (x : Year). x.courses) (year-at rule12 narrows ws s sound alive j h z inv) ∙ (narrows-at rule12 narrows ws s sound alive j h z inv).year.courses_same
+  courses_same = ap (λ (x : Year). x.courses) (year_at rule12 narrows ws s sound alive j h z inv) ∙ (narrows_at rule12 narrows ws s sound alive j h z inv).year.courses_same
 
   -- the courses stand in the order that they stood in
-  pub order-still : up (year_in ws s) ≡ up y
-  order-still = ap (λ (o : Orders). o.up) (sym (orders_weights (year_in ws s) y courses_same refl))
+  pub order_still : up (year_in ws s) ≡ up y
+  order_still = ap (λ (o : Orders). o.up) (sym (orders_weights (year_in ws s) y courses_same refl))
 
   -- what the term is asked with
   pub asks : (Columns ws z.list s.courses)
@@ -96,25 +96,25 @@ module _ (ws : List ℕ) (s : State) (sound : Sound (year_in ws s)) (j : ℕ) (h
       × (((term_at y j).low.0 ≤ (term_at y j).high.0) × ((term_at y j).high.0 ≤ 64000))
       × ((get_or z.sums j no_sums).free.0 ≡ 0 → (i : ℕ) → i < s.courses → open_in ws z.list j i ≡ false)
   asks =
-      let t = sound-z.term_sound j term-z in (
-        subst (Columns ws z.list) courses_same (columns_of y sound-z),
-        (rising-is (year_in ws s), omega (arith, sound)),
+      let t = sound_z.term_sound j term_z in (
+        subst (Columns ws z.list) courses_same (columns_of y sound_z),
+        (rising_is (year_in ws s), omega (arith, sound)),
         (omega (arith, t), omega (arith, t)),
-        λ e i l. none_of y sound-z j term-z e i (omega (arith, courses_same)),
+        λ e i l. none_of y sound_z j term_z e i (omega (arith, courses_same)),
       )
 
   -- what it is told
   pub told : (w : Says) → Right ws z.list s.courses j (term_at y j) (get_or z.sums j no_sums).fixed.0 w → SaysOf y j w
   told w r =
-      subst (λ p. Right ws z.list z.courses j (term_at y j) p w) (fixed_of y sound-z j term-z)
+      subst (λ p. Right ws z.list z.courses j (term_at y j) p w) (fixed_of y sound_z j term_z)
       (subst (λ n. Right ws z.list n j (term_at y j) (get_or z.sums j no_sums).fixed.0 w) (sym courses_same) r)
 
   pub ready : Sound y × ((j < z.terms) × (z.rule ≡ 0))
-  ready = (sound-z, (term-z, going))
+  ready = (sound_z, (term_z, going))
 
-  pub nothing-turn : SaysOf y j Nothing → z ≡ held (over_to rule12 (step_in ws s) (j + 1))
-  nothing-turn r =
-      let quiet : step_in ws z ≡ next rule12 (step_in ws z) j = rw (going, says_nothing y j r) (λ i. step y (sym (or_false z.altered) i) 0) in
+  pub nothing_turn : SaysOf y j Nothing → z ≡ held (over_to rule12 (step_in ws s) (j + 1))
+  nothing_turn r =
+      let quiet : step_in ws z ≡ next rule12 (step_in ws z) j = rw (going, says_nothing y j r) (λ i. step y (sym (or-false z.altered) i) 0) in
       ap held quiet ∙ same rule12 narrows ws s sound alive j h z inv
 
   pub judged_turn : (r : State) → r ≡ held (next rule12 (step_in ws z) j) → r ≡ held (over_to rule12 (step_in ws s) (j + 1))

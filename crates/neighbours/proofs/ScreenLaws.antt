@@ -25,8 +25,8 @@ module _ (q : ℕ → ℕ) (n m s l e a b : ℕ) where
       go (no d) = none k (omega (arith, d)) i lo hi
 
   -- from a k on at which the heaviest reach the range
-  pub none-on : Rising n q → m ≤ n → n ≤ m + s + 1 → (j : ℕ) → Below q n m s l e a b j → a ≤ q m - q (m - j) + l → NoneReach q n m s l e a b
-  none-on r few fits j none high k i lo hi = go (dec_lt k j)
+  pub none_on : Rising n q → m ≤ n → n ≤ m + s + 1 → (j : ℕ) → Below q n m s l e a b j → a ≤ q m - q (m - j) + l → NoneReach q n m s l e a b
+  none_on r few fits j none high k i lo hi = go (dec_lt k j)
     where
       go : Dec (k < j) → ⊥
       go (yes d) = none k d i lo hi
@@ -43,17 +43,17 @@ abbrev pub QuietBelow : (ℕ → ℕ) → ℕ → ℕ → ℕ → ℕ → Type 0
 QuietBelow q n a b j = (k' : ℕ) → k' < j → QuietAt q n a b k'
 
 module _ (q : ℕ → ℕ) (n a b : ℕ) where
-  pub quiet-more : (j : ℕ) → QuietBelow q n a b j → QuietAt q n a b j → QuietBelow q n a b (j + 1)
-  quiet-more j quiet this k h = go (ℕ_discrete k j)
+  pub quiet_more : (j : ℕ) → QuietBelow q n a b j → QuietAt q n a b j → QuietBelow q n a b (j + 1)
+  quiet_more j quiet this k h = go (ℕ_discrete k j)
     where
       go : Dec (k ≡ j) → QuietAt q n a b k
       go (yes d) = rw d this
       go (no d) = quiet k (omega (arith, d))
 
   -- from a k' on whose lightest reach the range, or come near to the heaviest
-  pub quiet-on : Rising n q → (j : ℕ) → QuietBelow q n a b j → (a ≤ q j) ⊎ (q n - q (n - 1) ≤ q j + (b - a + 1))
+  pub quiet_on : Rising n q → (j : ℕ) → QuietBelow q n a b j → (a ≤ q j) ⊎ (q n - q (n - 1) ≤ q j + (b - a + 1))
       → (k' : ℕ) → k' + 1 < n → q k' < a → q k' + (b - a + 1) < q n - q (n - 1) → QuietAt q n a b k'
-  quiet-on r j quiet ends k h light wide = go (dec_lt k j) ends
+  quiet_on r j quiet ends k h light wide = go (dec_lt k j) ends
     where
       go : Dec (k < j) → (a ≤ q j) ⊎ (q n - q (n - 1) ≤ q j + (b - a + 1)) → QuietAt q n a b k
       go (yes d) x = quiet k d

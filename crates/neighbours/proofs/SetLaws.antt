@@ -117,29 +117,29 @@ rest_is (g ∷ L) (suc r) apart l =
     (ap (λ x. g ∷ x) (rest_is L r (λ s q k m e. omega (arith, apart (suc s) (suc q) (omega arith) (omega arith) e)) (omega arith)))
 
 module _ (w : ℕ → ℕ) (set : List ℕ) (r i : ℕ) (apart : Apart set) (l : r < length set) (e : get_or set r 0 ≡ i) where
-  rest-cut : rest i set ≡ take r set ++ drop (suc r) set
-  rest-cut = ap (λ k. rest k set) (sym e) ∙ rest_is set r apart l
+  rest_cut : rest i set ≡ take r set ++ drop (suc r) set
+  rest_cut = ap (λ k. rest k set) (sym e) ∙ rest_is set r apart l
 
   front_long : length (take r set) ≡ r
   front_long = length-take-le r set (omega arith)
 
-  pub rest-length : length (rest i set) + 1 ≡ length set
-  rest-length =
-      omega (arith, ap length rest-cut, length-append (take r set) (drop (suc r) set), front_long, length-drop (suc r) set)
+  pub rest_length : length (rest i set) + 1 ≡ length set
+  rest_length =
+      omega (arith, ap length rest_cut, length-append (take r set) (drop (suc r) set), front_long, length-drop (suc r) set)
 
-  rest-front : (t : ℕ) → t ≤ r → upto w (rest i set) t ≡ upto w set t
-  rest-front t h =
-      ap (λ L. upto w L t) rest-cut
+  rest_front : (t : ℕ) → t ≤ r → upto w (rest i set) t ≡ upto w set t
+  rest_front t h =
+      ap (λ L. upto w L t) rest_cut
       ∙ ap (weigh w) (take-append-le t (take r set) (drop (suc r) set) (omega (arith, front_long)) ∙ take-take t r set h)
 
   -- the t lightest of the rest are, with i, the t + 1 lightest of all
-  rest-behind : (t : ℕ) → r ≤ t → upto w (rest i set) t + w i ≡ upto w set (t + 1)
-  rest-behind t h =
+  rest_behind : (t : ℕ) → r ≤ t → upto w (rest i set) t + w i ≡ upto w set (t + 1)
+  rest_behind t h =
       let front = take r set in
       let behind = drop (suc r) set in
       let far : t ≡ length front + (t - r) = omega (arith, front_long) in
       let parts : upto w (rest i set) t ≡ weigh w front + weigh w (take (t - r) behind) =
-      ap (λ L. upto w L t) rest-cut
+      ap (λ L. upto w L t) rest_cut
       ∙ ap (upto w (front ++ behind)) far
       ∙ ap (weigh w) (take-append-add front behind (t - r))
       ∙ weigh_append w front (take (t - r) behind) in
@@ -155,12 +155,12 @@ module _ (w : ℕ → ℕ) (set : List ℕ) (r i : ℕ) (apart : Apart set) (l :
       later : (t : ℕ) → r ≤ t → t + 1 ≡ suc r + (t - r)
       later t h = omega arith
 
-  pub rest-upto : (t : ℕ) → upto w (rest i set) t ≡ choose (leb t r) (upto w set t) (upto w set (t + 1) - w i)
-  rest-upto t = go (dec_lt r t)
+  pub rest_upto : (t : ℕ) → upto w (rest i set) t ≡ choose (leb t r) (upto w set t) (upto w set (t + 1) - w i)
+  rest_upto t = go (dec_lt r t)
     where
       go : Dec (r < t) → upto w (rest i set) t ≡ choose (leb t r) (upto w set t) (upto w set (t + 1) - w i)
-      go (yes d) = rw (lt-leb t r d) (omega (arith, rest-behind t (omega arith)))
-      go (no d) = rw (le-leb t r (omega (arith, d))) (rest-front t (omega (arith, d)))
+      go (yes d) = rw (lt-leb t r d) (omega (arith, rest_behind t (omega arith)))
+      go (no d) = rw (le-leb t r (omega (arith, d))) (rest_front t (omega (arith, d)))
 
 -- ---- out of an array
 
@@ -203,8 +203,8 @@ module _ (w : ℕ → ℕ) (set u : List ℕ) (h : Weighed w set u) where
   all_read : (t : ℕ) → t ≤ n → q t ≡ left_out u n 0 t
   all_read t l = rw (le-leb t n l) (sym (h.sums t l))
 
-  pub lent-all : Lent u n n 0
-  lent-all = record {
+  pub lent_all : Lent u n n 0
+  lent_all = record {
     long = omega (arith, h.few, h.long);
     longer = λ l. absurd (omega arith);
     covers = λ t k l. omega arith;
@@ -212,35 +212,35 @@ module _ (w : ℕ → ℕ) (set u : List ℕ) (h : Weighed w set u) where
     small = omega (arith, all_read n (omega arith), h.small);
   }
 
-  pub fires-all : (a b : ℕ) → fires_by (left_out u n 0) n a b ≡ fires w set a b
-  fires-all a b = sym (fires_by_lem w set a b ∙ fires_same n q (left_out u n 0) all_read a b)
+  pub fires_all : (a b : ℕ) → fires_by (left_out u n 0) n a b ≡ fires w set a b
+  fires_all a b = sym (fires_by_lem w set a b ∙ fires_same n q (left_out u n 0) all_read a b)
 
   module _ (r i : ℕ) (apart : Apart set) (l : r < length set) (e : get_or set r 0 ≡ i) where
     abbrev q' : ℕ → ℕ
     q' = upto w (rest i set)
 
     less : length (rest i set) ≡ n - 1
-    less = omega (arith, rest-length w set r i apart l e)
+    less = omega (arith, rest_length w set r i apart l e)
 
     rest_read : (t : ℕ) → t ≤ n - 1 → q' t ≡ left_out u r (w i) t
     rest_read t k =
-        rest-upto w set r i apart l e t
+        rest_upto w set r i apart l e t
         ∙ ap₂ (λ x y. choose (leb t r) x (y - w i)) (sym (h.sums t (omega arith))) (sym (h.sums (t + 1) (omega arith)))
 
-    pub lent-rest : Lent u (n - 1) r (w i)
-    lent-rest = record {
+    pub lent_rest : Lent u (n - 1) r (w i)
+    lent_rest = record {
       long = omega (arith, h.few, h.long);
       longer = λ k. omega (arith, h.few, h.long);
-      covers = λ t k m. omega (arith, h.sums (t + 1) (omega arith), rest-behind w set r i apart l e t (omega arith));
+      covers = λ t k m. omega (arith, h.sums (t + 1) (omega arith), rest_behind w set r i apart l e t (omega arith));
       rising = rising_same (n - 1) q' (left_out u r (w i)) rest_read (subst (λ k. Rising k q') less (rising_of w 0 (rest i set) (up_keep w (λ k. not (eqb k i)) set 0 h.up)));
-      small = omega (arith, rest_read (n - 1) (omega arith), rest-behind w set r i apart l e (n - 1) (omega arith), ap q (whole n (omega arith)), h.small);
+      small = omega (arith, rest_read (n - 1) (omega arith), rest_behind w set r i apart l e (n - 1) (omega arith), ap q (whole n (omega arith)), h.small);
     }
       where
         whole : (n : ℕ) → 0 < n → n - 1 + 1 ≡ n
         whole n k = omega arith
 
-    pub fires-rest : (a b : ℕ) → fires_by (left_out u r (w i)) (n - 1) a b ≡ fires w (rest i set) a b
-    fires-rest a b =
+    pub fires_rest : (a b : ℕ) → fires_by (left_out u r (w i)) (n - 1) a b ≡ fires w (rest i set) a b
+    fires_rest a b =
         sym (fires_by_lem w (rest i set) a b ∙ ap (λ k. fires_by q' k a b) less ∙ fires_same (n - 1) q' (left_out u r (w i)) rest_read a b)
 
 -- ---- where nothing fires
@@ -252,20 +252,20 @@ still n s a b q h flat some wide = any_none n (λ k'. any n (neighbours_by q n a
 
 module _ (w : ℕ → ℕ) (set : List ℕ) (s a b : ℕ) (up : Up w 0 set) (calm : Calm (upto w set) (length set) s b)
     (some : 0 < s) (wide : b + 1 ≡ a + s) where
-  calm-all : fires w set a b ≡ false
-  calm-all =
+  calm_all : fires w set a b ≡ false
+  calm_all =
       fires_by_lem w set a b
       ∙ still (length set) s a b (upto w set) (rising_of w 0 set up)
       (λ t l. omega (arith, (calm t l).1, rises (rising_of w 0 set up) (t - 1) t (omega arith) (omega arith)))
       some wide
 
   module _ (r i : ℕ) (apart : Apart set) (l : r < length set) (e : get_or set r 0 ≡ i) where
-    calm-light : w i ≤ b
-    calm-light = omega (arith, (calm r l).0, upto_more w set r l, ap w e)
+    calm_light : w i ≤ b
+    calm_light = omega (arith, (calm r l).0, upto_more w set r l, ap w e)
 
     -- the one left out weighs no more than any behind it
-    calm-rest : (t : ℕ) → t < length (rest i set) → upto w (rest i set) (t + 1) ≤ s + upto w (rest i set) t + upto w (rest i set) t
-    calm-rest t k = go (dec_lt t r)
+    calm_rest : (t : ℕ) → t < length (rest i set) → upto w (rest i set) (t + 1) ≤ s + upto w (rest i set) t + upto w (rest i set) t
+    calm_rest t k = go (dec_lt t r)
       where
         next : (t : ℕ) → t + 1 - 1 ≡ t
         next t = omega arith
@@ -274,33 +274,33 @@ module _ (w : ℕ → ℕ) (set : List ℕ) (s a b : ℕ) (up : Up w 0 set) (cal
         go (yes d) =
             omega (
               arith,
-              rest-front w set r i apart l e t (omega arith),
-              rest-front w set r i apart l e (t + 1) (omega arith),
+              rest_front w set r i apart l e t (omega arith),
+              rest_front w set r i apart l e (t + 1) (omega arith),
               (calm t (omega arith)).1,
               rises (rising_of w 0 set up) (t - 1) t (omega arith) (omega arith),
             )
         go (no d) =
             omega (
               arith,
-              rest-behind w set r i apart l e t (omega (arith, d)),
-              rest-behind w set r i apart l e (t + 1) (omega (arith, d)),
-              (calm (t + 1) (omega (arith, rest-length w set r i apart l e))).1,
+              rest_behind w set r i apart l e t (omega (arith, d)),
+              rest_behind w set r i apart l e (t + 1) (omega (arith, d)),
+              (calm (t + 1) (omega (arith, rest_length w set r i apart l e))).1,
               ap (upto w set) (next t),
-              upto_more w set t (omega (arith, rest-length w set r i apart l e)),
-              up_at w 0 set up r t (omega (arith, d)) (omega (arith, rest-length w set r i apart l e)),
+              upto_more w set t (omega (arith, rest_length w set r i apart l e)),
+              up_at w 0 set up r t (omega (arith, d)) (omega (arith, rest_length w set r i apart l e)),
               ap w e,
             )
 
-    calm-fires : (a b : ℕ) → b + 1 ≡ a + s → fires w (rest i set) a b ≡ false
-    calm-fires a b wide =
+    calm_fires : (a b : ℕ) → b + 1 ≡ a + s → fires w (rest i set) a b ≡ false
+    calm_fires a b wide =
         fires_by_lem w (rest i set) a b
-        ∙ still (length (rest i set)) s a b (upto w (rest i set)) (rising_of w 0 (rest i set) (up_keep w (λ k. not (eqb k i)) set 0 up)) calm-rest some wide
+        ∙ still (length (rest i set)) s a b (upto w (rest i set)) (rising_of w 0 (rest i set) (up_keep w (λ k. not (eqb k i)) set 0 up)) calm_rest some wide
 
-    calm-less : fires w (rest i set) (a - w i) (b - w i) ≡ false
-    calm-less = go (dec_lt (w i) a)
+    calm_less : fires w (rest i set) (a - w i) (b - w i) ≡ false
+    calm_less = go (dec_lt (w i) a)
       where
         go : Dec (w i < a) → fires w (rest i set) (a - w i) (b - w i) ≡ false
-        go (yes d) = calm-fires (a - w i) (b - w i) (omega (arith, calm-light))
+        go (yes d) = calm_fires (a - w i) (b - w i) (omega (arith, calm_light))
         go (no d) =
             let none : a - w i ≡ 0 = omega (arith, d) in
             fires_by_lem w (rest i set) (a - w i) (b - w i)
@@ -308,10 +308,10 @@ module _ (w : ℕ → ℕ) (set : List ℕ) (s a b : ℕ) (up : Up w 0 set) (cal
             ∙ none_below_0 (length (rest i set)) (upto w (rest i set)) 0 (b - w i) (or_right (eqb (length (rest i set)) 0) true refl)
 
   -- rule 12 says nothing of a term, nor of any course in it
-  pub calm-still : (fires w set a b ≡ false)
+  pub calm_still : (fires w set a b ≡ false)
       × ((r i : ℕ) → Apart set → r < length set → get_or set r 0 ≡ i
       → (w i ≤ b) × (fires w (rest i set) (a - w i) (b - w i) ≡ false) × (fires w (rest i set) a b ≡ false))
-  calm-still = (calm-all, λ r i apart l e. (calm-light r i apart l e, calm-less r i apart l e, calm-fires r i apart l e a b wide))
+  calm_still = (calm_all, λ r i apart l e. (calm_light r i apart l e, calm_less r i apart l e, calm_fires r i apart l e a b wide))
 
 -- ---- where no one left out shows anything
 
@@ -341,8 +341,8 @@ quiet_same n q p h a b quiet = record {
 module _ (m r x : ℕ) (q p : ℕ → ℕ) (up : Rising (m + 1) q) (up_rest : Rising m p) (l : r < m + 1) (one : q (r + 1) ≡ q r + x)
     (front : (t : ℕ) → t ≤ r → p t ≡ q t) (behind : (t : ℕ) → r ≤ t → p t + x ≡ q (t + 1)) where
   -- from place s to place t the rest are no lighter than all
-  no-lighter : (s t : ℕ) → s ≤ t → t ≤ m → q t + p s ≤ p t + q s
-  no-lighter s t k h = go (dec_lt s r) (dec_lt t r)
+  no_lighter : (s t : ℕ) → s ≤ t → t ≤ m → q t + p s ≤ p t + q s
+  no_lighter s t k h = go (dec_lt s r) (dec_lt t r)
     where
       go : Dec (s < r) → Dec (t < r) → q t + p s ≤ p t + q s
       go (yes c) (yes d) = omega (arith, front s (omega arith), front t (omega arith))
@@ -350,8 +350,8 @@ module _ (m r x : ℕ) (q p : ℕ → ℕ) (up : Rising (m + 1) q) (up_rest : Ri
       go (no c) d = omega (arith, behind s (omega (arith, c)), behind t (omega (arith, c)), up.heavier s t k (omega arith))
 
   -- nor heavier than all a place further up
-  no-heavier : (s t : ℕ) → s ≤ t → t ≤ m → p t + q (s + 1) ≤ q (t + 1) + p s
-  no-heavier s t k h = go (dec_lt s r) (dec_lt t r)
+  no_heavier : (s t : ℕ) → s ≤ t → t ≤ m → p t + q (s + 1) ≤ q (t + 1) + p s
+  no_heavier s t k h = go (dec_lt s r) (dec_lt t r)
     where
       go : Dec (s < r) → Dec (t < r) → p t + q (s + 1) ≤ q (t + 1) + p s
       go (yes c) (yes d) = omega (arith, front s (omega arith), front t (omega arith), up.heavier s t k (omega arith))
@@ -359,29 +359,29 @@ module _ (m r x : ℕ) (q p : ℕ → ℕ) (up : Rising (m + 1) q) (up_rest : Ri
       go (no c) d = omega (arith, behind s (omega (arith, c)), behind t (omega (arith, c)))
 
   -- so too the lightest
-  lightest-left : (t : ℕ) → t ≤ m → q t ≤ p t
-  lightest-left t h = omega (arith, no-lighter 0 t (omega arith) h, up.none, up_rest.none)
+  lightest_left : (t : ℕ) → t ≤ m → q t ≤ p t
+  lightest_left t h = omega (arith, no_lighter 0 t (omega arith) h, up.none, up_rest.none)
 
   -- and none of the rest weighs more than the heaviest of all
   one_left : (t : ℕ) → t < m → p (t + 1) + q m ≤ q (m + 1) + p t
   one_left t h =
-      omega (arith, no-heavier t (t + 1) (omega arith) (omega arith), up.heavier (t + 1) m (omega arith) (omega arith))
+      omega (arith, no_heavier t (t + 1) (omega arith) (omega arith), up.heavier (t + 1) m (omega arith) (omega arith))
 
   module _ (a b : ℕ) (range : a ≤ b) (quiet : Quiet q (m + 1) a b) where
     last : m + 1 - 1 ≡ m
     last = omega arith
 
-    quiet-light : x ≤ b
-    quiet-light = omega (arith, quiet.light, ap q last, one, up.heavier r m (omega arith) (omega arith))
+    quiet_light : x ≤ b
+    quiet_light = omega (arith, quiet.light, ap q last, one, up.heavier r m (omega arith) (omega arith))
 
     -- with the range as it is
-    quiet-fixed : (k' k : ℕ) → neighbours_by p m a b k' k ≡ true → ⊥
-    quiet-fixed k' k e =
+    quiet_fixed : (k' k : ℕ) → neighbours_by p m a b k' k ≡ true → ⊥
+    quiet_fixed k' k e =
         let f = parts m p a b k' k e in
-        let low = lightest-left k' (omega (arith, f.0)) in
+        let low = lightest_left k' (omega (arith, f.0)) in
         let near = one_left k' (omega (arith, f.0)) in
-        let heaviest = no-lighter (m - k) m (omega arith) (omega arith) in
-        let outside = no-heavier k' (k' + (k + 1)) (omega arith) (omega (arith, f.0)) in
+        let heaviest = no_lighter (m - k) m (omega arith) (omega arith) in
+        let outside = no_heavier k' (k' + (k + 1)) (omega arith) (omega (arith, f.0)) in
         let but-k : m + 1 - 1 - k ≡ m - k = omega arith in
         let later : k' + 1 + (k + 1) ≡ k' + (k + 1) + 1 = omega arith in
         (quiet.each k' (omega (arith, f.0)) (omega (arith, f.1)) (omega (arith, gap up_rest a b k' k e, ap q last))).1 k (omega (arith, f.0))
@@ -389,18 +389,18 @@ module _ (m r x : ℕ) (q p : ℕ → ℕ) (up : Rising (m + 1) q) (up_rest : Ri
         (omega (arith, f.2, ap q later))
 
     -- and with the weight less
-    quiet-struck : (k' k : ℕ) → neighbours_by p m (a - x) (b - x) k' k ≡ true → ⊥
-    quiet-struck k' k e =
+    quiet_struck : (k' k : ℕ) → neighbours_by p m (a - x) (b - x) k' k ≡ true → ⊥
+    quiet_struck k' k e =
         let f = parts m p (a - x) (b - x) k' k e in
         let less : x < a = omega (arith, f.1) in
-        let low = lightest-left k' (omega (arith, f.0)) in
+        let low = lightest_left k' (omega (arith, f.0)) in
         let near = one_left k' (omega (arith, f.0)) in
-        let heaviest = no-heavier k' (m - k) (omega (arith, f.0)) (omega arith) in
-        let outside = no-lighter (k' + (k + 1)) m (omega (arith, f.0)) (omega arith) in
+        let heaviest = no_heavier k' (m - k) (omega (arith, f.0)) (omega arith) in
+        let outside = no_lighter (k' + (k + 1)) m (omega (arith, f.0)) (omega arith) in
         let but-k : m - k + 1 ≡ m + 1 - k = omega arith in
         (quiet.each k' (omega (arith, f.0)) (omega (arith, f.1)) (omega (arith, gap up_rest (a - x) (b - x) k' k e, ap q last))).0 k (omega (arith, f.0))
         (omega (arith, f.1, behind m (omega arith), ap q but-k, rises up (m + 1 - k) (m + 1) (omega arith) (omega arith)))
-        (omega (arith, f.2, behind m (omega arith), ap q last, quiet-light))
+        (omega (arith, f.2, behind m (omega arith), ap q last, quiet_light))
 
 none_fire : (n : ℕ) (q : ℕ → ℕ) (a b : ℕ) → ((k' k : ℕ) → neighbours_by q n a b k' k ≡ true → ⊥) → fires_by q n a b ≡ false
 unfolding fires_by
@@ -416,16 +416,16 @@ quiet_still w set a b up quiet range r i apart l e =
     let m = length (rest i set) in
     let q = upto w set in
     let p = upto w (rest i set) in
-    let long : length set ≡ m + 1 = sym (rest-length w set r i apart l e) in
+    let long : length set ≡ m + 1 = sym (rest_length w set r i apart l e) in
     let rising : Rising (m + 1) q = subst (λ n. Rising n q) long (rising_of w 0 set up) in
     let rising-rest : Rising m p = rising_of w 0 (rest i set) (up_keep w (λ k. not (eqb k i)) set 0 up) in
     let within : r < m + 1 = omega (arith, long) in
     let one : q (r + 1) ≡ q r + w i = omega (arith, upto_more w set r l, ap w e) in
-    let front = rest-front w set r i apart l e in
-    let behind = rest-behind w set r i apart l e in
+    let front = rest_front w set r i apart l e in
+    let behind = rest_behind w set r i apart l e in
     let hushed : Quiet q (m + 1) a b = subst (λ n. Quiet q n a b) long quiet in (
-      quiet-light m r (w i) q p rising rising-rest within one front behind a b range hushed,
+      quiet_light m r (w i) q p rising rising-rest within one front behind a b range hushed,
       fires_by_lem w (rest i set) (a - w i) (b - w i)
-          ∙ none_fire m p (a - w i) (b - w i) (quiet-struck m r (w i) q p rising rising-rest within one front behind a b range hushed),
-      fires_by_lem w (rest i set) a b ∙ none_fire m p a b (quiet-fixed m r (w i) q p rising rising-rest within one front behind a b range hushed),
+          ∙ none_fire m p (a - w i) (b - w i) (quiet_struck m r (w i) q p rising rising-rest within one front behind a b range hushed),
+      fires_by_lem w (rest i set) a b ∙ none_fire m p a b (quiet_fixed m r (w i) q p rising rising-rest within one front behind a b range hushed),
     )

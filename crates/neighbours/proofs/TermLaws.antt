@@ -7,21 +7,21 @@ use native.Mathlib.Decide.{dec_lt}
 use native.Mathlib.Omega.{arith}
 use borrow.Author.Tests.{le-ltb, ne_eqb}
 use Rattle.theory.specs.Neighbours.{fires}
-use Rattle.theory.proofs.OrderLaws.{lighter-rises}
+use Rattle.theory.proofs.OrderLaws.{lighter_rises}
 use Rattle.year.specs.declared.Term.{Term}
 use Rattle.orders.specs.Orders.{last_weight}
 use Rattle.neighbours.specs.Opened.{at, open_in}
 use Rattle.neighbours.specs.Verdicts.{rising_in, set_in, verdict_in, cannot_in, Columns, RightIn, Right}
 use Rattle.neighbours.specs.declared.Says.{Says}
 use Rattle.neighbours.specs.declared.Says.TheVariants.{Nothing, Courses, NoPlan}
-use Rattle.neighbours.proofs.ColumnLaws.{stands, calm-says, light-calm}
+use Rattle.neighbours.proofs.ColumnLaws.{stands, calm_says, light_calm}
 
 module _ (weight list : List ℕ) (n : ℕ) (c : Columns weight list n) (j : ℕ) where
   -- with no open course from a place on, none is heavier than the course before that place, as the order rises
-  pub last-heaviest : (order : List ℕ) → order ≡ rising_in weight n
+  pub last_heaviest : (order : List ℕ) → order ≡ rising_in weight n
       → (last : ℕ) → last ≤ n → ((t : ℕ) → last ≤ t → t < n → open_in weight list j (at order t) ≡ false)
       → (i : ℕ) → i < n → open_in weight list j i ≡ true → at weight i ≤ last_weight weight order last
-  last-heaviest order rises last few none i l e =
+  last_heaviest order rises last few none i l e =
       let a = stands weight list n c i l in
       go a.0 a.1 (ap (λ o. at o a.0) rises ∙ a.2) (dec_lt a.0 last)
     where
@@ -33,25 +33,25 @@ module _ (weight list : List ℕ) (n : ℕ) (c : Columns weight list n) (j : ℕ
             ap (at weight) is,
             ap (λ o. at weight (at o r)) rises,
             ap (λ o. at weight (at o (last - 1))) rises,
-            lighter-rises (at weight) n c.few r (last - 1) (omega arith) (omega arith),
+            lighter_rises (at weight) n c.few r (last - 1) (omega arith) (omega arith),
           ))
       go r m is (no d) = absurd (true≢false (sym e ∙ ap (open_in weight list j) (sym is) ∙ none r (omega (arith, d)) m))
 
   -- the range is what the term still needs and takes, as it takes what is fixed
   module _ (t : Term) (p a b : ℕ) (fits : p ≤ t.high.0) (least : a ≡ t.low.0 - p) (most : b ≡ t.high.0 - p) where
-    cannot-is : (v : Bool) → fires (at weight) (set_in weight list n j) a b ≡ v → cannot_in weight list n j t p ≡ v
-    cannot-is v e =
+    cannot_is : (v : Bool) → fires (at weight) (set_in weight list n j) a b ≡ v → cannot_in weight list n j t p ≡ v
+    cannot_is v e =
         rw (le-ltb t.high.0 p fits) (ap₂ (fires (at weight) (set_in weight list n j)) (sym least) (sym most) ∙ e)
 
     pub right_of : (r : Says) → RightIn weight list n j a b r → Right weight list n j t p r
     right_of Nothing h =
-        (cannot-is false h.0, λ i l. ap₂ (λ x y. verdict_in weight list n j x y i) (sym least) (sym most) ∙ h.1 i l)
-    right_of Courses h = cannot-is false h
-    right_of NoPlan h = cannot-is true h
+        (cannot_is false h.0, λ i l. ap₂ (λ x y. verdict_in weight list n j x y i) (sym least) (sym most) ∙ h.1 i l)
+    right_of Courses h = cannot_is false h
+    right_of NoPlan h = cannot_is true h
 
     -- no open course is heavier than what the term still takes, nor than the range is wide
-    pub light-says : (top : ℕ) → ((i : ℕ) → i < n → open_in weight list j i ≡ true → at weight i ≤ top) → a ≤ b → top ≤ b → top ≤ b - a + 1
+    pub light_says : (top : ℕ) → ((i : ℕ) → i < n → open_in weight list j i ≡ true → at weight i ≤ top) → a ≤ b → top ≤ b → top ≤ b - a + 1
         → Right weight list n j t p Nothing
-    light-says top light range taken narrow =
+    light_says top light range taken narrow =
         right_of Nothing
-        (calm-says weight list n c j (b - a + 1) a b (light-calm weight list n c j top (b - a + 1) b light narrow taken) (omega arith) (omega arith))
+        (calm_says weight list n c j (b - a + 1) a b (light_calm weight list n c j top (b - a + 1) b light narrow taken) (omega arith) (omega arith))

@@ -1,5 +1,6 @@
 // Rule 12: neighbouring sums. It goes through the open courses of each term and strikes the term from lists, or leaves it alone
 // there.
+#![tactic(auto)]
 mod courses;
 mod fires;
 mod gathering;
@@ -19,7 +20,7 @@ use rules::Verdict;
 use year::{Credits, Year};
 
 // A range of credits: what a term still needs, and what it still takes.
-#[derive(Drop)]
+#[derive(Clone, Copy)]
 pub struct Range {
     pub least: Credits,
     pub most: Credits,
@@ -27,7 +28,7 @@ pub struct Range {
 
 // The open courses of a term from lightest to heaviest: how many there are, what the lightest of them weigh, and at which
 // place each course stands.
-#[derive(Drop)]
+#[derive(Clone, Copy)]
 pub struct Opened {
     pub count: usize,
     pub upto: [u32; 65],
@@ -35,14 +36,14 @@ pub struct Opened {
 }
 
 // A course and the verdict on it; the number of courses where none has one.
-#[derive(Drop)]
+#[derive(Clone, Copy)]
 pub struct First {
     pub course: usize,
     pub verdict: Verdict,
 }
 
 // What the rule says of a whole term: nothing, as no course has a verdict; its courses have theirs; or there is no plan.
-#[derive(Drop)]
+#[derive(Clone, Copy)]
 pub enum Says {
     Nothing,
     Courses,

@@ -16,13 +16,13 @@ use Rattle.theory.proofs.TabLaws.{length_tab, get_or_tab}
 use Rattle.theory.specs.Tests.{any}
 use Rattle.theory.proofs.TestLaws.{any_more, any_none}
 use Rattle.theory.specs.Packing.{share}
-use Rattle.theory.proofs.PackingLaws.{share-le, share-big}
+use Rattle.theory.proofs.PackingLaws.{share_le, share_big}
 use Rattle.packing.specs.Sizes.{share_at, share_sum, capped, capped_at, cap_sum, over}
 
 -- ---- the sums
 
 share_none : (c t : ℕ) → share c t 0 ≡ 0
-share_none c t = omega (arith, share-le c t 0 (omega arith))
+share_none c t = omega (arith, share_le c t 0 (omega arith))
 
 pub share_pick : (c t : ℕ) (b : Bool) (x : ℕ) → share c t (pick b x) ≡ pick b (share c t x)
 share_pick c t true x = refl
@@ -40,11 +40,11 @@ share_capped : (c t x : ℕ) → t + t ≤ c → share c t x ≤ capped c x
 share_capped c t x h =
     choose_case (λ m. share c t x ≤ m) (ltb (c / 2) x) c x
     (λ e. go (dec_lt (c - t) x))
-    (λ e. share-le c t x (omega (arith, ltb-false (c / 2) x e)))
+    (λ e. share_le c t x (omega (arith, ltb-false (c / 2) x e)))
   where
     go : Dec (c - t < x) → share c t x ≤ c
-    go (yes q) = omega (arith, share-big c t x q)
-    go (no q) = omega (arith, share-le c t x (omega (arith, q)))
+    go (yes q) = omega (arith, share_big c t x q)
+    go (no q) = omega (arith, share_le c t x (omega (arith, q)))
 
 share_bound : (x : List ℕ) (c t : ℕ) → t + t ≤ c → share_sum x c t ≤ cap_sum x c
 unfolding share_sum cap_sum

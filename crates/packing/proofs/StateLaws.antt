@@ -1,6 +1,6 @@
 -- Rule 11 on the state that the code carries: its tests over the columns are the year's, and its answer is the step's.
 use Prim.Native.Nat.{ℕ, ◌+◌, ◌-◌, ◌*◌, ◌/◌, ◌≤◌, ◌<◌}
-use mathlib.Core.Bool.{Bool, true, false, not, ◌||◌, or_false}
+use mathlib.Core.Bool.{Bool, true, false, not, ◌||◌, or-false}
 use mathlib.Core.List.{List}
 use mathlib.Core.Path.{◌≡◌, refl, sym, ap, ap₂, ◌∙◌}
 use native.Mathlib.Omega.{arith}
@@ -15,15 +15,15 @@ use Rattle.theory.specs.Packing.{share}
 use Rattle.theory.specs.Tab.{tab}
 use Rattle.theory.specs.Tests.{any}
 use Rattle.theory.proofs.TestLaws.{all_at, any_same, any_none}
-use Rattle.theory.proofs.PackingLaws.{share-top, ceiling_test}
+use Rattle.theory.proofs.PackingLaws.{share_top, ceiling_test}
 use Rattle.year.specs.Sums.{is_placed, placed_at, all_placed, fixed_credits}
 use Rattle.year.specs.Year.{course_in}
 use Rattle.frame.specs.Bounds.{high_in}
 use Rattle.year.specs.SumsOf.{fixed_in, none_open}
 use Rattle.year.specs.Sound.{Sound}
 use Rattle.year.specs.declared.Year.{Year}
-use Rattle.year.proofs.SumLaws.{fixed-read}
-use Rattle.year.proofs.OnePlacing.{none-open-is}
+use Rattle.year.proofs.SumLaws.{fixed_read}
+use Rattle.year.proofs.OnePlacing.{none_open_is}
 use Rattle.rules.specs.Step.{step, live, dead}
 use Rattle.frame.specs.State.{held, year_in, step_in}
 use Rattle.rules.specs.Packing.{burst, room, course_share, term_share, shares, bursts, rule11}
@@ -57,7 +57,7 @@ module _ (w : List ℕ) (s : State) (a : Sound (year_in w s)) where
   -- ---- the tests
 
   fixed_is : (k : ℕ) → k < 16 → fixed_in s.sums k ≡ fixed_credits (year_in w s) k
-  fixed_is k h = fixed-read (year_in w s) s.sums a.sums_kept k h
+  fixed_is k h = fixed_read (year_in w s) s.sums a.sums_kept k h
 
   courses_are : (c t : ℕ) → sum s.courses (course_share (year_in w s) c t) ≡ share_sum (tab s.courses (size_in w s.list)) c t
   courses_are c t =
@@ -71,44 +71,44 @@ module _ (w : List ℕ) (s : State) (a : Sound (year_in w s)) where
       (λ k l. ap (λ x. share c t (c - (high_in s.term k - x))) (sym (fixed_is k (omega arith))))
       ∙ sym (share_tab s.terms (used_in s.term s.sums c) c t)
 
-  shares-are : (c t : ℕ)
+  shares_are : (c t : ℕ)
       → shares (year_in w s) c t ≡ share_sum (tab s.courses (size_in w s.list)) c t + share_sum (tab s.terms (used_in s.term s.sums c)) c t
   unfolding shares
-  shares-are c t = ap₂ ◌+◌ (courses_are c t) (terms_are c t a.terms_most)
+  shares_are c t = ap₂ ◌+◌ (courses_are c t) (terms_are c t a.terms_most)
 
-  abbrev overIn : ℕ → ℕ → Bool
-  overIn c = over (tab s.courses (size_in w s.list)) (tab s.terms (used_in s.term s.sums c)) c (s.terms * c)
+  abbrev over_in : ℕ → ℕ → Bool
+  over_in c = over (tab s.courses (size_in w s.list)) (tab s.terms (used_in s.term s.sums c)) c (s.terms * c)
 
-  bursting-are : any s.terms (burst_in s.term s.sums) ≡ any s.terms (burst (year_in w s))
-  bursting-are =
+  bursting_are : any s.terms (burst_in s.term s.sums) ≡ any s.terms (burst (year_in w s))
+  bursting_are =
       any_same s.terms (burst_in s.term s.sums) (burst (year_in w s))
       (λ k l. ap (ltb (high_in s.term k)) (fixed_is k (omega (arith, a))))
 
-  bursts-are : (c : ℕ) → 0 < c → any (c / 2 + 1) (overIn c) ≡ any (c / 2 + 1) (bursts (year_in w s) c)
-  bursts-are c h =
+  bursts_are : (c : ℕ) → 0 < c → any (c / 2 + 1) (over_in c) ≡ any (c / 2 + 1) (bursts (year_in w s) c)
+  bursts_are c h =
       sym
-      (any_same (c / 2 + 1) (bursts (year_in w s) c) (overIn c)
-      (λ t l. ceiling_test c s.terms (shares (year_in w s) c t) h ∙ ap (ltb (s.terms * c)) (shares-are c t)))
+      (any_same (c / 2 + 1) (bursts (year_in w s) c) (over_in c)
+      (λ t l. ceiling_test c s.terms (shares (year_in w s) c t) h ∙ ap (ltb (s.terms * c)) (shares_are c t)))
 
-  pub bursting-is : any s.terms (burst_in s.term s.sums) ≡ true → true ≡ unpackable (year_in w s)
+  pub bursting_is : any s.terms (burst_in s.term s.sums) ≡ true → true ≡ unpackable (year_in w s)
   unfolding unpackable
-  bursting-is b = rw (sym bursting-are ∙ b)
+  bursting_is b = rw (sym bursting_are ∙ b)
 
   -- where every course has one term, each term counts for c at most, and there is nothing else
-  settled-fits : all_placed (year_in w s) ≡ true → (c t : ℕ) → shares (year_in w s) c t ≤ s.terms * c
+  settled_fits : all_placed (year_in w s) ≡ true → (c t : ℕ) → shares (year_in w s) c t ≤ s.terms * c
   unfolding shares all_placed
-  settled-fits p c t =
+  settled_fits p c t =
       let none = sum_zero s.courses (course_share (year_in w s) c t) (λ i h. rw (all_at s.courses (placed_at (year_in w s)) p i h) refl) in
-      let terms = sum_le_mul s.terms c (term_share (year_in w s) c t) (λ k h. share-top c t _ (omega arith)) in
+      let terms = sum_le_mul s.terms c (term_share (year_in w s) c t) (λ k h. share_top c t _ (omega arith)) in
       omega (arith, none, terms)
 
   module _ (b : any s.terms (burst_in s.term s.sums) ≡ false) where
     pub settled_is : none_open s.terms s.sums ≡ true → false ≡ unpackable (year_in w s)
     unfolding unpackable
-    settled_is n = rw (sym bursting-are ∙ b) (go (ℕ_discrete (room (year_in w s)) 0))
+    settled_is n = rw (sym bursting_are ∙ b) (go (ℕ_discrete (room (year_in w s)) 0))
       where
         placed : all_placed (year_in w s) ≡ true
-        placed = sym (none-open-is (year_in w s) a) ∙ n
+        placed = sym (none_open_is (year_in w s) a) ∙ n
 
         go : Dec (room (year_in w s) ≡ 0) → false ≡ choose (eqb (room (year_in w s)) 0) false (any (room (year_in w s) / 2 + 1) (bursts (year_in w s) (room (year_in w s))))
         go (yes z) = rw (eq-eqb _ _ z)
@@ -117,37 +117,37 @@ module _ (w : List ℕ) (s : State) (a : Sound (year_in w s)) where
             rw (ne_eqb c 0 d)
             (sym
             (any_none (c / 2 + 1) (bursts (year_in w s) c)
-            (λ t l. ceiling_test c s.terms (shares (year_in w s) c t) (omega (arith, d)) ∙ le-ltb (s.terms * c) (shares (year_in w s) c t) (settled-fits placed c t))))
+            (λ t l. ceiling_test c s.terms (shares (year_in w s) c t) (omega (arith, d)) ∙ le-ltb (s.terms * c) (shares (year_in w s) c t) (settled_fits placed c t))))
 
-    pub empty-is : room_in s.term s.terms ≡ 0 → false ≡ unpackable (year_in w s)
+    pub empty_is : room_in s.term s.terms ≡ 0 → false ≡ unpackable (year_in w s)
     unfolding unpackable
-    empty-is z = rw (sym bursting-are ∙ b, z)
+    empty_is z = rw (sym bursting_are ∙ b, z)
 
-    pub over-is : (c : ℕ) → c ≡ room_in s.term s.terms → (c ≡ 0 → ⊥)
+    pub over_is : (c : ℕ) → c ≡ room_in s.term s.terms → (c ≡ 0 → ⊥)
         → any (c / 2 + 1) (over (tab s.courses (size_in w s.list)) (tab s.terms (used_in s.term s.sums c)) c (s.terms * c)) ≡ unpackable (year_in w s)
     unfolding unpackable
-    over-is c r z =
-        bursts-are c (omega (arith, z))
+    over_is c r z =
+        bursts_are c (omega (arith, z))
         ∙ ap (λ x. any (x / 2 + 1) (bursts (year_in w s) x)) r
-        ∙ rw (sym bursting-are ∙ b, ne_eqb (room (year_in w s)) 0 (λ q. z (r ∙ q))) refl
+        ∙ rw (sym bursting_are ∙ b, ne_eqb (room (year_in w s)) 0 (λ q. z (r ∙ q))) refl
 
   -- ---- the answer
 
   -- a rule before found no plan
-  pub no-plan-stays : (s.rule ≡ 0 → ⊥) → s ≡ held (once rule11 (step_in w s))
-  no-plan-stays d = ap held (sym (next_dead (λ y k. rule11 y) (step_in w s) 0 (ne_eqb s.rule 0 d)))
+  pub no_plan_stays : (s.rule ≡ 0 → ⊥) → s ≡ held (once rule11 (step_in w s))
+  no_plan_stays d = ap held (sym (next_dead (λ y k. rule11 y) (step_in w s) 0 (ne_eqb s.rule 0 d)))
 
-  altered-is : s.altered ≡ s.altered || false
-  altered-is = sym (or_false s.altered)
+  altered_is : s.altered ≡ s.altered || false
+  altered_is = sym (or-false s.altered)
 
   pub finds_no_plan : s.rule ≡ 0 → unpackable (year_in w s) ≡ true → failed s ≡ held (once rule11 (step_in w s))
   finds_no_plan z u = ap held dies
     where
       dies : step (year_in w s) s.altered 11 ≡ once rule11 (step_in w s)
-      dies = rw (z, rule11_is (year_in w s), u) (λ i. step (year_in w s) (altered-is i) 11)
+      dies = rw (z, rule11_is (year_in w s), u) (λ i. step (year_in w s) (altered_is i) 11)
 
-  pub finds-nothing : s.rule ≡ 0 → unpackable (year_in w s) ≡ false → s ≡ held (once rule11 (step_in w s))
-  finds-nothing z u = ap held still
+  pub finds_nothing : s.rule ≡ 0 → unpackable (year_in w s) ≡ false → s ≡ held (once rule11 (step_in w s))
+  finds_nothing z u = ap held still
     where
       still : step_in w s ≡ once rule11 (step_in w s)
-      still = rw (z, rule11_is (year_in w s), u) (λ i. step (year_in w s) (altered-is i) 0)
+      still = rw (z, rule11_is (year_in w s), u) (λ i. step (year_in w s) (altered_is i) 0)

@@ -14,8 +14,8 @@ use Rattle.theory.proofs.SumLaws.{sum_more, sum_cong, sum_behind, sum_front}
 use Rattle.theory.specs.Tests.{any}
 use Rattle.theory.proofs.TestLaws.{and_true, and_of, any_none, any_false, any_of}
 use Rattle.theory.specs.Packing.{share}
-use Rattle.theory.proofs.PackingLaws.{share-small, share-mid}
-use Rattle.theory.proofs.ThresholdLaws.{thresholds-that-occur}
+use Rattle.theory.proofs.PackingLaws.{share_small, share_mid}
+use Rattle.theory.proofs.ThresholdLaws.{thresholds_that_occur}
 use Rattle.packing.specs.Sizes.{size_at, share_at, share_sum, over}
 use Rattle.packing.specs.Thresholds.{Rising, from_at, from_sum, tried, course_exceeds, term_exceeds}
 use Rattle.packing.proofs.SizeLaws.{share_pick, none_more}
@@ -24,17 +24,17 @@ use Rattle.packing.proofs.SizeLaws.{share_pick, none_more}
 
 module _ (a b : List ℕ) (c limit : ℕ) where
   -- what a sum was found to be, beside the terms'
-  pub over-is : (t x : ℕ) (r v : Bool) → x ≡ share_sum a c t → r ≡ ltb limit (x + share_sum b c t) → r ≡ v → over a b c limit t ≡ v
-  over-is t x r v e f g = ap (λ z. ltb limit (z + share_sum b c t)) (sym e) ∙ sym f ∙ g
+  pub over_is : (t x : ℕ) (r v : Bool) → x ≡ share_sum a c t → r ≡ ltb limit (x + share_sum b c t) → r ≡ v → over a b c limit t ≡ v
+  over_is t x r v e f g = ap (λ z. ltb limit (z + share_sum b c t)) (sym e) ∙ sym f ∙ g
 
-  pub tried-over : (t : ℕ) → t ≤ c / 2 → over a b c limit t ≡ true → tried a b c limit t ≡ true
-  tried-over t l e = and_of (leb t (c / 2)) (over a b c limit t) (le-leb t (c / 2) l) e
+  pub tried_over : (t : ℕ) → t ≤ c / 2 → over a b c limit t ≡ true → tried a b c limit t ≡ true
+  tried_over t l e = and_of (leb t (c / 2)) (over a b c limit t) (le-leb t (c / 2) l) e
 
-  pub tried-within : (t : ℕ) → over a b c limit t ≡ false → tried a b c limit t ≡ false
-  tried-within t e = ap (λ o. leb t (c / 2) && o) e ∙ and-false (leb t (c / 2))
+  pub tried_within : (t : ℕ) → over a b c limit t ≡ false → tried a b c limit t ≡ false
+  tried_within t e = ap (λ o. leb t (c / 2) && o) e ∙ and-false (leb t (c / 2))
 
-  pub not-tried : (t : ℕ) → c / 2 < t → tried a b c limit t ≡ false
-  not-tried t l = ap (λ e. e && over a b c limit t) (lt-leb t (c / 2) l)
+  pub not_tried : (t : ℕ) → c / 2 < t → tried a b c limit t ≡ false
+  not_tried t l = ap (λ e. e && over a b c limit t) (lt-leb t (c / 2) l)
 
 -- the test whether a size is to be tried
 pub new_size : (last t h : ℕ) → ltb last t && leb t h ≡ true → (last < t) × (t ≤ h)
@@ -49,9 +49,9 @@ old_size last t h e l m = true≢false (sym (and_of (ltb last t) (leb t h) (lt-l
 
 module _ (a b : List ℕ) (c limit : ℕ) where
   -- a size of 0 counts nothing, so it may be left out
-  over-open : (t : ℕ) → ltb limit (sum (length a) (λ i. pick (ltb 0 (get_or a i 0)) (share c t (get_or a i 0))) + sum (length b) (λ k. share c t (get_or b k 0))) ≡ over a b c limit t
+  over_open : (t : ℕ) → ltb limit (sum (length a) (λ i. pick (ltb 0 (get_or a i 0)) (share c t (get_or a i 0))) + sum (length b) (λ k. share c t (get_or b k 0))) ≡ over a b c limit t
   unfolding share_sum
-  over-open t =
+  over_open t =
       ap (λ x. ltb limit (x + share_sum b c t))
       (sum_cong (length a) (λ i. pick (ltb 0 (get_or a i 0)) (share c t (get_or a i 0))) (share_at a c t)
       (λ i l. sym (share_pick c t (ltb 0 (get_or a i 0)) (get_or a i 0)) ∙ ap (share c t) (itself (get_or a i 0))))
@@ -60,15 +60,15 @@ module _ (a b : List ℕ) (c limit : ℕ) where
       itself zero = refl
       itself (suc x) = ap (λ q. pick q (suc x)) (lt-ltb 0 (suc x) (omega arith))
 
-  pub some-threshold : any (c / 2 + 1) (over a b c limit)
+  pub some_threshold : any (c / 2 + 1) (over a b c limit)
       ≡ any (length a) (course_exceeds a b c limit) || (any (length b) (term_exceeds a b c limit) || over a b c limit (c / 2))
-  some-threshold =
+  some_threshold =
       subst
       (λ (f : ℕ → Bool). any (c / 2 + 1) f
       ≡ any (length a) (λ i. ltb 0 (get_or a i 0) && (leb (get_or a i 0) (c / 2) && f (get_or a i 0)))
       || (any (length b) (λ k. leb (get_or b k 0) (c / 2) && f (get_or b k 0)) || f (c / 2)))
-      (fun_ext over-open)
-      (thresholds-that-occur c (length a) (length b) (λ i. get_or a i 0) (λ k. get_or b k 0) (λ i. ltb 0 (get_or a i 0)) limit (c / 2))
+      (fun_ext over_open)
+      (thresholds_that_occur c (length a) (length b) (λ i. get_or a i 0) (λ k. get_or b k 0) (λ i. ltb 0 (get_or a i 0)) limit (c / 2))
 
 -- ---- what the sizes from t on count for
 
@@ -78,8 +78,8 @@ unfolding from_sum share_sum
 from_counts x c t h top l = sum_cong (length x) (from_at x t) (share_at x c t) (λ i q. each (get_or x i 0) (top i q) (dec_lt (get_or x i 0) t))
   where
     each : (s : ℕ) → s ≤ h → Dec (s < t) → pick (not (ltb s t)) s ≡ share c t s
-    each s q (yes k) = ap (λ e. pick (not e) s) (lt-ltb s t k) ∙ sym (share-small c t s (omega arith) k)
-    each s q (no k) = ap (λ e. pick (not e) s) (le-ltb s t (omega (arith, k))) ∙ sym (share-mid c t s (omega arith) (omega (arith, k)))
+    each s q (yes k) = ap (λ e. pick (not e) s) (lt-ltb s t k) ∙ sym (share_small c t s (omega arith) k)
+    each s q (no k) = ap (λ e. pick (not e) s) (le-ltb s t (omega (arith, k))) ∙ sym (share_mid c t s (omega arith) (omega (arith, k)))
 
 -- ---- in the order of the courses
 
@@ -91,7 +91,7 @@ module _ (a b o : List ℕ) (c limit : ℕ) where
   -- the first r courses have gone by: `last` is the last size tried, and `rest` what is still to come
   pub record Passed (r last rest : ℕ) : Type 0 where
     pub few : r ≤ length a
-    pub to-come : rest + sum r size_in ≡ sum (length a) size_in
+    pub to_come : rest + sum r size_in ≡ sum (length a) size_in
     pub none : any r (λ q. course_exceeds a b c limit (get_or o q 0)) ≡ false
     pub below : (q : ℕ) → q < r → size_in q ≤ c / 2 → size_in q ≤ last
     pub above : (q : ℕ) → r ≤ q → q < length a → (size_in q ≡ 0) ⊎ (last ≤ size_in q)
@@ -102,7 +102,7 @@ module _ (a b o : List ℕ) (c limit : ℕ) where
     unfolding any sum
     none_passed rest e = record {
       few = omega arith;
-      to-come = omega (arith, u.each (size_at a));
+      to_come = omega (arith, u.each (size_at a));
       none = refl;
       below = λ q l h. omega arith;
       above = λ q l h. inr (omega arith);
@@ -110,13 +110,13 @@ module _ (a b o : List ℕ) (c limit : ℕ) where
     }
 
     -- a course whose size exceeds
-    pub one-exceeds : (r : ℕ) → r < length a → 0 < size_in r → size_in r ≤ c / 2 → over a b c limit (size_in r) ≡ true → any (length a) (course_exceeds a b c limit) ≡ true
-    one-exceeds r l new half e =
+    pub one_exceeds : (r : ℕ) → r < length a → 0 < size_in r → size_in r ≤ c / 2 → over a b c limit (size_in r) ≡ true → any (length a) (course_exceeds a b c limit) ≡ true
+    one_exceeds r l new half e =
         any_of (length a) (course_exceeds a b c limit) (get_or o r 0) (u.within r l)
-        (and_of (ltb 0 (size_in r)) (tried a b c limit (size_in r)) (lt-ltb 0 (size_in r) new) (tried-over a b c limit (size_in r) half e))
+        (and_of (ltb 0 (size_in r)) (tried a b c limit (size_in r)) (lt-ltb 0 (size_in r) new) (tried_over a b c limit (size_in r) half e))
 
-    pub all-passed : (last rest : ℕ) → Passed (length a) last rest → any (length a) (course_exceeds a b c limit) ≡ false
-    all-passed last rest p = any_none (length a) (course_exceeds a b c limit) each
+    pub all_passed : (last rest : ℕ) → Passed (length a) last rest → any (length a) (course_exceeds a b c limit) ≡ false
+    all_passed last rest p = any_none (length a) (course_exceeds a b c limit) each
       where
         each : (i : ℕ) → i < length a → course_exceeds a b c limit i ≡ false
         each i l =
@@ -126,7 +126,7 @@ module _ (a b o : List ℕ) (c limit : ℕ) where
     module _ (r last rest : ℕ) (p : Passed r last rest) (l : r < length a) where
       -- what is still to come has the course at hand in it
       pub enough : size_in r ≤ rest
-      enough = omega (arith, p.to-come, sum_front (length a) (r + 1) size_in (omega arith), sum_more r size_in)
+      enough = omega (arith, p.to_come, sum_front (length a) (r + 1) size_in (omega arith), sum_more r size_in)
 
       -- a size that was not tried yet: what is still to come are the sizes from it on
       pub rest_from : last < size_in r → size_in r ≤ c / 2 → rest ≡ from_sum a (size_in r)
@@ -134,7 +134,7 @@ module _ (a b o : List ℕ) (c limit : ℕ) where
       rest_from new half =
           omega (
             arith,
-            p.to-come,
+            p.to_come,
             u.each (from_at a (size_in r)),
             sum_behind (length a) r size_in (λ q. from_at a (size_in r) (get_or o q 0)) p.few gone coming,
           )
@@ -154,10 +154,10 @@ module _ (a b o : List ℕ) (c limit : ℕ) where
               go (inr e) = ap (λ t. pick (not t) (size_in q)) (le-ltb (size_in q) (size_in r) e)
 
       -- a size that was not tried yet does not exceed
-      pub one-tried : last < size_in r → over a b c limit (size_in r) ≡ false → (rest' : ℕ) → rest' + size_in r ≡ rest → Passed (r + 1) (size_in r) rest'
-      one-tried new e rest' is = record {
+      pub one_tried : last < size_in r → over a b c limit (size_in r) ≡ false → (rest' : ℕ) → rest' + size_in r ≡ rest → Passed (r + 1) (size_in r) rest'
+      one_tried new e rest' is = record {
         few = omega arith;
-        to-come = omega (arith, p.to-come, sum_more r size_in);
+        to_come = omega (arith, p.to_come, sum_more r size_in);
         none = none_more r (λ q. course_exceeds a b c limit (get_or o q 0)) p.none fails;
         below = λ q h half. go q (ℕ_discrete q r) h half;
         above = λ q h m. u.rises r q (omega arith) m;
@@ -165,17 +165,17 @@ module _ (a b o : List ℕ) (c limit : ℕ) where
       }
         where
           fails : course_exceeds a b c limit (get_or o r 0) ≡ false
-          fails = ap (λ t. ltb 0 (size_in r) && t) (tried-within a b c limit (size_in r) e) ∙ and-false (ltb 0 (size_in r))
+          fails = ap (λ t. ltb 0 (size_in r) && t) (tried_within a b c limit (size_in r) e) ∙ and-false (ltb 0 (size_in r))
 
           go : (q : ℕ) → Dec (q ≡ r) → q < r + 1 → size_in q ≤ c / 2 → size_in q ≤ size_in r
           go q (yes d) h half = omega (arith, ap size_in d)
           go q (no d) h half = omega (arith, p.below q (omega (arith, d)) half)
 
       -- a size that is 0, was tried, or is above half of c
-      pub one-passed : (last < size_in r → size_in r ≤ c / 2 → ⊥) → (rest' : ℕ) → rest' + size_in r ≡ rest → Passed (r + 1) last rest'
-      one-passed old rest' is = record {
+      pub one_passed : (last < size_in r → size_in r ≤ c / 2 → ⊥) → (rest' : ℕ) → rest' + size_in r ≡ rest → Passed (r + 1) last rest'
+      one_passed old rest' is = record {
         few = omega arith;
-        to-come = omega (arith, p.to-come, sum_more r size_in);
+        to_come = omega (arith, p.to_come, sum_more r size_in);
         none = none_more r (λ q. course_exceeds a b c limit (get_or o q 0)) p.none (fails (dec_lt (c / 2) (size_in r)) (p.above r (omega arith) l));
         below = λ q h half. go q (ℕ_discrete q r) h half;
         above = λ q h m. p.above q (omega arith) m;
@@ -183,7 +183,7 @@ module _ (a b o : List ℕ) (c limit : ℕ) where
       }
         where
           fails : Dec (c / 2 < size_in r) → (size_in r ≡ 0) ⊎ (last ≤ size_in r) → course_exceeds a b c limit (get_or o r 0) ≡ false
-          fails (yes k) q = ap (λ t. ltb 0 (size_in r) && t) (not-tried a b c limit (size_in r) k) ∙ and-false (ltb 0 (size_in r))
+          fails (yes k) q = ap (λ t. ltb 0 (size_in r) && t) (not_tried a b c limit (size_in r) k) ∙ and-false (ltb 0 (size_in r))
           fails (no k) (inl e) = ap (λ x. ltb 0 x && tried a b c limit x) e
           fails (no k) (inr e) = ap (λ x. ltb 0 x && tried a b c limit x) (same (dec_lt last (size_in r))) ∙ p.last_none
             where

@@ -1,5 +1,5 @@
 -- Every promise is proved: one proof of the record of them all.
-use Rattle.rules.proofs.ThresholdLaws.{at-sizes-is}
+use Rattle.rules.proofs.ThresholdLaws.{at_sizes_is}
 use Rattle.promises.specs.Promises.{Promises}
 use Rattle.promises.proofs.Rounds.{filtering_narrows}
 use Rattle.promises.proofs.Narrowings.{each_narrowing}
@@ -37,7 +37,7 @@ promises M = record {
   sums_kept = sums_kept;
   made_by_hand = made_by_hand;
   spare_room = spare_room;
-  sizes_are_enough = at-sizes-is;
+  sizes_are_enough = at_sizes_is;
   no_subset_within = no_subset_within;
   steps_explained = steps_explained;
 }

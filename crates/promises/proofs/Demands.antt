@@ -3,7 +3,7 @@ use mathlib.Core.Path.{sym, ap, subst, ◌∙◌}
 use Rattle.records.specs.Reading.{read_list}
 use Rattle.records.proofs.ListLaws.{read_sound}
 use Rattle.records.proofs.WriteLaws.{records_length, records_most}
-use Rattle.records.proofs.ReadWrite.{read-write}
+use Rattle.records.proofs.ReadWrite.{read_write}
 use Rattle.records.proofs.WriteRead.{write_read}
 use Rattle.filter.proofs.RoundLaws.{answer_few}
 use Rattle.promises.specs.Rounds.{Filtering}
@@ -22,7 +22,7 @@ use Rattle.promises.proofs.Listing.{listing_due}
 use Rattle.promises.proofs.Codes.{codes_due}
 use Rattle.promises.proofs.Boundary.{buffer_left}
 use Rattle.promises.proofs.RoundTrip.{read_done, read_refused, wrote}
-use Rattle.promises.proofs.Sequence.{start_sound, sequence-narrower, sequence-plans, sequence-no-plan, sequence-settled}
+use Rattle.promises.proofs.Sequence.{start_sound, sequence_narrower, sequence_plans, sequence_no_plan, sequence_settled}
 
 -- ---- 1
 
@@ -61,16 +61,16 @@ demand_2 = record {
   records_fit = records_most;
   read_is_sound = λ s e. read_sound s (read_list s).year (read_done s e);
   joined_is_sound = joined_sound;
-  read_then_write = λ s bytes e. read-write s bytes (read_list s).year (read_done s e);
+  read_then_write = λ s bytes e. read_write s bytes (read_list s).year (read_done s e);
 }
 
 -- ---- 3
 
 pub demand_3 : Demand3
 demand_3 = record {
-  plans_kept = λ o calls e. sequence-plans (start o).year calls (start_sound o e);
-  narrower = λ o calls e. sequence-narrower (start o).year calls (start_sound o e);
-  no_plan_only_where_none = λ o calls e. sequence-no-plan (start o).year calls (start_sound o e);
-  settled_is_the_plan = λ o calls e. sequence-settled (start o).year calls (start_sound o e);
+  plans_kept = λ o calls e. sequence_plans (start o).year calls (start_sound o e);
+  narrower = λ o calls e. sequence_narrower (start o).year calls (start_sound o e);
+  no_plan_only_where_none = λ o calls e. sequence_no_plan (start o).year calls (start_sound o e);
+  settled_is_the_plan = λ o calls e. sequence_settled (start o).year calls (start_sound o e);
   settled_exactly_if_plan = settled_plan;
 }

@@ -19,33 +19,33 @@ use Rattle.year.specs.Numbers.{imbalance_number, imbalance_value}
 use Rattle.year.specs.declared.Measured.{Measured}
 use Rattle.year.specs.declared.Measured.TheVariants.{Imbalance, Unsound, Unsettled}
 use Rattle.year.proofs.SoundLaws.{sound_of, sound_to}
-use Rattle.year.proofs.OnePlacing.{credits-fixed, count-fixed, placed-listed, placed-within, placed-only, placed_by, all_placed_lem, plan_total}
-use Rattle.year.proofs.ImbalanceLaws.{imbalance_unsound, imbalance-open, imbalance-unfit, imbalance-given, imbalance-whole, imbalance-pairs, imbalance-zero, imbalance_small}
+use Rattle.year.proofs.OnePlacing.{credits_fixed, count_fixed, placed_listed, placed_within, placed_only, placed_by, all_placed_lem, plan_total}
+use Rattle.year.proofs.ImbalanceLaws.{imbalance_unsound, imbalance_open, imbalance_unfit, imbalance_given, imbalance_whole, imbalance_pairs, imbalance_zero, imbalance_small}
 use Rattle.year.specs.Examples.{imbalances}
 use Rattle.year.proofs.PlanCount.{plan_of_test, test_of_plan}
 use Rattle.promises.specs.ImbalancePlan.{imbalance_in, ImbalanceDue, ImbalanceMeans}
 
 module _ (y : Year) (p : Placing) (s : Sound y) (h : PlacedBy y p) where
   -- what is fixed in a term is what the placing puts there
-  fits-same : fits_at y ≡ fits_in y p
-  fits-same = fun_ext (λ k. ap (λ c. fits (term_at y k) c (fixed_count y k)) (credits-fixed y p h k) ∙ ap (fits (term_at y k) (credits_in y p k)) (count-fixed y p h k))
+  fits_same : fits_at y ≡ fits_in y p
+  fits_same = fun_ext (λ k. ap (λ c. fits (term_at y k) c (fixed_count y k)) (credits_fixed y p h k) ∙ ap (fits (term_at y k) (credits_in y p k)) (count_fixed y p h k))
 
-  one-plan : (all y.terms (fits_at y) ≡ true) ↔ Plan y p
+  one_plan : (all y.terms (fits_at y) ≡ true) ↔ Plan y p
   unfolding is_plan
-  one-plan = (
+  one_plan = (
     λ e.
         plan_of_test y p
         (and_of (all y.courses (stands y p)) (all y.terms (fits_in y p))
         (all_of y.courses (stands y p)
-        (λ i l. and_of (ltb (p i) y.terms) (lists (course_at y i) (p i)) (lt-ltb _ _ (placed-within y p h s i l)) (placed-listed y p h i l)))
-        (rw fits-same at e)),
-    λ q. rw fits-same (and_true (all y.courses (stands y p)) (all y.terms (fits_in y p)) (test_of_plan y p q)).1,
+        (λ i l. and_of (ltb (p i) y.terms) (lists (course_at y i) (p i)) (lt-ltb _ _ (placed_within y p h s i l)) (placed_listed y p h i l)))
+        (rw fits_same at e)),
+    λ q. rw fits_same (and_true (all y.courses (stands y p)) (all y.terms (fits_in y p)) (test_of_plan y p q)).1,
   )
 
-  imbalance-is : Plan y p → imbalance_of y ≡ Imbalance (imbalance_in y p)
-  imbalance-is q =
-      let e : fixed_credits y ≡ credits_in y p = fun_ext (credits-fixed y p h) in
-      rw e at (imbalance-given y s (all_placed_lem y p s h) (one-plan.1 q))
+  imbalance_is : Plan y p → imbalance_of y ≡ Imbalance (imbalance_in y p)
+  imbalance_is q =
+      let e : fixed_credits y ≡ credits_in y p = fun_ext (credits_fixed y p h) in
+      rw e at (imbalance_given y s (all_placed_lem y p s h) (one_plan.1 q))
 
 -- ---- the three cases
 
@@ -59,13 +59,13 @@ case_of y = go (is_sound y) refl (all_placed y) refl (all y.terms (fits_at y)) r
   where
     go : (a : Bool) → is_sound y ≡ a → (b : Bool) → all_placed y ≡ b → (c : Bool) → all y.terms (fits_at y) ≡ c → Case y
     go false p b q c r = unsound (λ s. true≢false (sym (sound_to y s) ∙ p)) (imbalance_unsound y p)
-    go true p false q c r = unsettled (sound_of y p) (inl q) (imbalance-open y (sound_of y p) q)
+    go true p false q c r = unsettled (sound_of y p) (inl q) (imbalance_open y (sound_of y p) q)
     go true p true q true r =
-        let plan = (one-plan y (the_placing y) (sound_of y p) (placed_by y q)).0 r in
-        settled (sound_of y p) q plan (imbalance-is y (the_placing y) (sound_of y p) (placed_by y q) plan)
+        let plan = (one_plan y (the_placing y) (sound_of y p) (placed_by y q)).0 r in
+        settled (sound_of y p) q plan (imbalance_is y (the_placing y) (sound_of y p) (placed_by y q) plan)
     go true p true q false r =
-        let none : Plan y (the_placing y) → ⊥ = λ z. true≢false (sym ((one-plan y (the_placing y) (sound_of y p) (placed_by y q)).1 z) ∙ r) in
-        unsettled (sound_of y p) (inr none) (imbalance-unfit y (sound_of y p) q r)
+        let none : Plan y (the_placing y) → ⊥ = λ z. true≢false (sym ((one_plan y (the_placing y) (sound_of y p) (placed_by y q)).1 z) ∙ r) in
+        unsettled (sound_of y p) (inr none) (imbalance_unfit y (sound_of y p) q r)
 
 number_is : (y : Year) (m : Measured) → imbalance_of y ≡ m → (n : ℕ) → imbalance_number (imbalance_of y) ≡ n → imbalance_number m ≡ n
 number_is y m e n q = sym (ap imbalance_number e) ∙ q
@@ -103,12 +103,12 @@ imbalance_due = record {
     alone : (y : Year) → Case y → imbalance_number (imbalance_of y) ≡ 0 → (p : Placing) → Plan y p → (i : ℕ) → i < y.courses → p i ≡ the_placing y i
     alone y (unsound d e) n p q = absurd (omega (arith, number_is y _ e 0 n))
     alone y (unsettled s d e) n p q = absurd (omega (arith, number_is y _ e 0 n))
-    alone y (settled s a t e) n p q = placed-only y (the_placing y) (placed_by y a) p q
+    alone y (settled s a t e) n p q = placed_only y (the_placing y) (placed_by y a) p q
 
     worth : (y : Year) → Case y → imbalance_number (imbalance_of y) ≡ 0 → (p : Placing) → Plan y p → imbalance_value (imbalance_of y) ≡ imbalance_in y p
     worth y (unsound d e) n p q = absurd (omega (arith, number_is y _ e 0 n))
     worth y (unsettled s d e) n p q = absurd (omega (arith, number_is y _ e 0 n))
-    worth y (settled s a t e) n p q = ap imbalance_value (imbalance-is y p s (λ i l. placed_by y a i l ∙ ap (λ k. 2 ^ k) (sym (placed-only y (the_placing y) (placed_by y a) p q i l))) q)
+    worth y (settled s a t e) n p q = ap imbalance_value (imbalance_is y p s (λ i l. placed_by y a i l ∙ ap (λ k. 2 ^ k) (sym (placed_only y (the_placing y) (placed_by y a) p q i l))) q)
 
     nothing : (y : Year) → Case y → (imbalance_number (imbalance_of y) ≡ 0 → ⊥) → imbalance_value (imbalance_of y) ≡ 0
     nothing y (unsound d e) n = ap imbalance_value e
@@ -127,9 +127,9 @@ most y = go (imbalance_of y) refl
 
 pub imbalance_means : ImbalanceMeans
 imbalance_means = record {
-  whole = λ y p q. imbalance-whole y (credits_in y p) (plan_total y p q);
-  pair_by_pair = λ y p q. imbalance-pairs y (credits_in y p) (plan_total y p q);
-  zero_when_equal = λ y p q. imbalance-zero y (credits_in y p) (plan_total y p q);
+  whole = λ y p q. imbalance_whole y (credits_in y p) (plan_total y p q);
+  pair_by_pair = λ y p q. imbalance_pairs y (credits_in y p) (plan_total y p q);
+  zero_when_equal = λ y p q. imbalance_zero y (credits_in y p) (plan_total y p q);
   most = most;
   fits = λ y. omega (arith, most y);
   by_computation = imbalances;

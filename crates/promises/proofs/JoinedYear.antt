@@ -17,7 +17,7 @@ use Rattle.records.specs.Writing.{term_bytes, term_block, course_block, joined, 
 use Rattle.records.specs.declared.Reading.{Reading}
 use Rattle.records.specs.declared.Reading.TheVariants as reading
 use Rattle.records.specs.declared.Received.{Received}
-use Rattle.records.proofs.ReadWrite.{read-write}
+use Rattle.records.proofs.ReadWrite.{read_write}
 use Rattle.records.proofs.WriteRead.{write_read}
 use Rattle.hours.specs.Numbers.{edition_number, joining_number, joining_list, joining_place}
 use Rattle.hours.specs.Entries.{weight_by}
@@ -74,7 +74,7 @@ records_are t h y j bytes =
     let z = (term_list t).year in
     let none : z.courses ≡ 0 = (terms_done t j.front_done).0.no_course in
     let front : joined (term_block z) z.terms ≡ t =
-    sym (append-nil (joined (term_block z) z.terms)) ∙ rw none at (read-write t bytes z (terms_read t j.front_done)) in
+    sym (append-nil (joined (term_block z) z.terms)) ∙ rw none at (read_write t bytes z (terms_read t j.front_done)) in
     let same : joined (term_block y) y.terms ≡ joined (term_block z) z.terms =
     ap₂ (λ (l : List _) (n : ℕ). joined (λ i. term_bytes i (get_or l i zero_term)) n) j.front_same.1 j.front_same.0 in
     ap (λ (l : List ℕ). l ++ joined (course_block y) y.courses) (same ∙ front)

@@ -14,7 +14,7 @@ use Rattle.records.specs.Reading.{Record, OfTerm, OfCourse, Faulty, add_term, ad
 use Rattle.records.specs.declared.Fault.{Fault}
 use Rattle.records.specs.declared.Reading.{Reading}
 use Rattle.records.specs.declared.Reading.TheVariants.{Done, Refused}
-use Rattle.records.proofs.GatherLaws.{is_done, gathered-keeps, first-fault, listed}
+use Rattle.records.proofs.GatherLaws.{is_done, gathered_keeps, first_fault, listed}
 use Rattle.promises.specs.Refusals.{FirstWrong}
 use Rattle.promises.proofs.Tells.{Tells}
 
@@ -41,42 +41,42 @@ module _ {bad : Type 0} {records : ℕ} {wrong : ℕ → ℕ → Type 0} where
       go (yes h) = absurd (b.none_lower n h a.is_wrong)
       go (no h) = omega (arith, h)
 
-  first-once : (n k m j : ℕ) → FirstWrong bad records wrong n k → FirstWrong bad records wrong m j → (n ≡ m) × (k ≡ j)
-  first-once n k m j a b =
+  first_once : (n k m j : ℕ) → FirstWrong bad records wrong n k → FirstWrong bad records wrong m j → (n ≡ m) × (k ≡ j)
+  first_once n k m j a b =
       let at : j ≡ k = omega (arith, same_place n k m j a b, same_place m j n k b a) in
       let c = subst (FirstWrong bad records wrong m) at b in
       (omega (arith, same_number n m k a c, same_number m n k c a), sym at)
 
-  pub found-once : (n k m j : ℕ) → Found bad records wrong n k → Found bad records wrong m j → (n ≡ m) × (k ≡ j)
-  found-once n k m j (bad_length_lem a) (bad_length_lem b) = (refl, refl)
-  found-once n k m j (bad_length_lem a) (first_wrong b) = absurd (b.good_length a)
-  found-once n k m j (bad_length_lem a) (all_right good b) = absurd (good a)
-  found-once n k m j (first_wrong a) (bad_length_lem b) = absurd (a.good_length b)
-  found-once n k m j (first_wrong a) (first_wrong b) = first-once n k m j a b
-  found-once n k m j (first_wrong a) (all_right good b) = absurd (b k a.in_list n a.is_wrong)
-  found-once n k m j (all_right good a) (bad_length_lem b) = absurd (good b)
-  found-once n k m j (all_right good a) (first_wrong b) = absurd (a j b.in_list m b.is_wrong)
-  found-once n k m j (all_right good a) (all_right well b) = (refl, refl)
+  pub found_once : (n k m j : ℕ) → Found bad records wrong n k → Found bad records wrong m j → (n ≡ m) × (k ≡ j)
+  found_once n k m j (bad_length_lem a) (bad_length_lem b) = (refl, refl)
+  found_once n k m j (bad_length_lem a) (first_wrong b) = absurd (b.good_length a)
+  found_once n k m j (bad_length_lem a) (all_right good b) = absurd (good a)
+  found_once n k m j (first_wrong a) (bad_length_lem b) = absurd (a.good_length b)
+  found_once n k m j (first_wrong a) (first_wrong b) = first_once n k m j a b
+  found_once n k m j (first_wrong a) (all_right good b) = absurd (b k a.in_list n a.is_wrong)
+  found_once n k m j (all_right good a) (bad_length_lem b) = absurd (good b)
+  found_once n k m j (all_right good a) (first_wrong b) = absurd (a j b.in_list m b.is_wrong)
+  found_once n k m j (all_right good a) (all_right well b) = (refl, refl)
 
   -- what a number says, where the rows have the numbers 2 to 7
   module _ (few : (k n : ℕ) → wrong k n → (2 ≤ n) × (n ≤ 7)) where
-    pub found-length : (k : ℕ) → Found bad records wrong 1 k → bad × (k ≡ 0)
-    found-length k (bad_length_lem b) = (b, refl)
-    found-length k (first_wrong w) = absurd (omega (arith, (few k 1 w.is_wrong).0))
+    pub found_length : (k : ℕ) → Found bad records wrong 1 k → bad × (k ≡ 0)
+    found_length k (bad_length_lem b) = (b, refl)
+    found_length k (first_wrong w) = absurd (omega (arith, (few k 1 w.is_wrong).0))
 
     pub found_right : (k : ℕ) → Found bad records wrong 0 k → (bad → ⊥) × ((i : ℕ) → i < records → (n : ℕ) → wrong i n → ⊥)
     found_right k (first_wrong w) = absurd (omega (arith, (few k 0 w.is_wrong).0))
     found_right k (all_right good r) = (good, r)
 
-    pub found-most : (n k : ℕ) → Found bad records wrong n k → n ≤ 7
-    found-most n k (bad_length_lem b) = omega arith
-    found-most n k (first_wrong w) = (few k n w.is_wrong).1
-    found-most n k (all_right good r) = omega arith
+    pub found_most : (n k : ℕ) → Found bad records wrong n k → n ≤ 7
+    found_most n k (bad_length_lem b) = omega arith
+    found_most n k (first_wrong w) = (few k n w.is_wrong).1
+    found_most n k (all_right good r) = omega arith
 
-  pub found-wrong : (n k : ℕ) → 2 ≤ n → Found bad records wrong n k → FirstWrong bad records wrong n k
-  found-wrong n k h (bad_length_lem b) = absurd (omega arith)
-  found-wrong n k h (first_wrong w) = w
-  found-wrong n k h (all_right good r) = absurd (omega arith)
+  pub found_wrong : (n k : ℕ) → 2 ≤ n → Found bad records wrong n k → FirstWrong bad records wrong n k
+  found_wrong n k h (bad_length_lem b) = absurd (omega arith)
+  found_wrong n k h (first_wrong w) = w
+  found_wrong n k h (all_right good r) = absurd (omega arith)
 
 -- ---- one record
 
@@ -101,8 +101,8 @@ module _ (wrong : ℕ → ℕ → Type 0) where
       go (no d) = none m (omega (arith, d)) w
 
   module _ (few : (k n : ℕ) → wrong k n → (2 ≤ n) × (n ≤ 7)) where
-    pub none-start : (k : ℕ) → NoneBelow k 2
-    none-start k m h w = omega (arith, (few k m w).0)
+    pub none_start : (k : ℕ) → NoneBelow k 2
+    none_start k m h w = omega (arith, (few k m w).0)
 
     pub none_left : (k : ℕ) → NoneBelow k 8 → RightAt k
     none_left k none n w = none n (omega (arith, (few k n w).1)) w
@@ -117,9 +117,9 @@ module _ (wrong : ℕ → ℕ → Type 0) where
     row f false rest t none more = more (one_more k (fault_number f) none (t.1 refl))
 
     -- the same of a test that is to pass
-    pub row-passed : (f : Fault) (b : Bool) (rest : A) → Tells (not b) (wrong k (fault_number f)) → NoneBelow k (fault_number f) → (NoneBelow k (suc (fault_number f)) → Judged k (of rest)) → Judged k (of (choose b rest (faulty f)))
-    row-passed f true rest t none more = more (one_more k (fault_number f) none (t.1 refl))
-    row-passed f false rest t none more = fails f (t.0 refl) none
+    pub row_passed : (f : Fault) (b : Bool) (rest : A) → Tells (not b) (wrong k (fault_number f)) → NoneBelow k (fault_number f) → (NoneBelow k (suc (fault_number f)) → Judged k (of rest)) → Judged k (of (choose b rest (faulty f)))
+    row_passed f true rest t none more = more (one_more k (fault_number f) none (t.1 refl))
+    row_passed f false rest t none more = fails f (t.0 refl) none
 
 -- ---- a list whose records are taken one by one
 
@@ -131,8 +131,8 @@ module _ (wrong : ℕ → ℕ → Type 0) (entry : ℕ → Year → Record) (sta
   abbrev Behind : ℕ → Year → Type 0
   Behind k y = Q k y × ((i : ℕ) → i < k → RightAt wrong i)
 
-  right-more : (k : ℕ) → ((i : ℕ) → i < k → RightAt wrong i) → RightAt wrong k → (i : ℕ) → i < suc k → RightAt wrong i
-  right-more k so_far here i h = go (ℕ_discrete i k)
+  right_more : (k : ℕ) → ((i : ℕ) → i < k → RightAt wrong i) → RightAt wrong k → (i : ℕ) → i < suc k → RightAt wrong i
+  right_more k so_far here i h = go (ℕ_discrete i k)
     where
       go : Dec (i ≡ k) → RightAt wrong i
       go (yes e) = subst (RightAt wrong) (sym e) here
@@ -140,20 +140,20 @@ module _ (wrong : ℕ → ℕ → Type 0) (entry : ℕ → Year → Record) (sta
 
   behind : (k : ℕ) (y : Year) → gathered entry start k ≡ done y → Behind k y
   behind =
-      gathered-keeps entry start Behind (first, λ i h. absurd (omega arith))
-      (λ k y t p e. (term k y t p.0 e, right-more k p.1 (subst (Judged wrong k) e (judged k y p.0))))
-      (λ k y c p e. (course k y c p.0 e, right-more k p.1 (subst (Judged wrong k) e (judged k y p.0))))
+      gathered_keeps entry start Behind (first, λ i h. absurd (omega arith))
+      (λ k y t p e. (term k y t p.0 e, right_more k p.1 (subst (Judged wrong k) e (judged k y p.0))))
+      (λ k y c p e. (course k y c p.0 e, right_more k p.1 (subst (Judged wrong k) e (judged k y p.0))))
 
   module _ (bad : Type 0) (records : ℕ) where
-    found-records : (bad → ⊥) → (a : Reading) → (gathered entry start records).answer ≡ a → Found bad records wrong (reading_number a) (reading_place a)
-    found-records good Done e = all_right good (behind records (gathered entry start records).year (is_done (gathered entry start records) e)).1
-    found-records good (Refused f k) e =
-        let r = first-fault entry start records f k e in
-        let p = behind k r.1.so_far r.1.taken-before in
-        let j : Judged wrong k (Faulty f) = subst (Judged wrong k) r.1.fault-here (judged k r.1.so_far p.0) in
+    found_records : (bad → ⊥) → (a : Reading) → (gathered entry start records).answer ≡ a → Found bad records wrong (reading_number a) (reading_place a)
+    found_records good Done e = all_right good (behind records (gathered entry start records).year (is_done (gathered entry start records) e)).1
+    found_records good (Refused f k) e =
+        let r = first_fault entry start records f k e in
+        let p = behind k r.1.so_far r.1.taken_before in
+        let j : Judged wrong k (Faulty f) = subst (Judged wrong k) r.1.fault_here (judged k r.1.so_far p.0) in
         first_wrong (record { good_length = good; in_list = r.0; before_right = p.1; is_wrong = j.0; none_lower = j.1 })
 
     -- what the list is answered by is what the rows say
-    pub found-by : (test : Bool) → Tells test bad → let a = (listed test entry start records).answer in Found bad records wrong (reading_number a) (reading_place a)
-    found-by true t = bad_length_lem (t.0 refl)
-    found-by false t = found-records (t.1 refl) (gathered entry start records).answer refl
+    pub found_by : (test : Bool) → Tells test bad → let a = (listed test entry start records).answer in Found bad records wrong (reading_number a) (reading_place a)
+    found_by true t = bad_length_lem (t.0 refl)
+    found_by false t = found_records (t.1 refl) (gathered entry start records).answer refl

@@ -12,8 +12,8 @@ use Rattle.rules.specs.Lists.{verdict_at3, rule3_course, overfull, short, full, 
 use Rattle.rules.specs.Facts.{never, the_fixed}
 use Rattle.rules.specs.Reasons.{Reason, reason, basis_room, basis_need, Good, reason14, reason25, reason3, reason10_course, reason10, reason6, reason7, reason8, reason9, reason11, reason12, reason12_course}
 use Rattle.rules.proofs.FactLaws.{held, plan_meets, plan_concludes}
-use Rattle.rules.proofs.FactAtLaws.{pair-right, bound-right, all_found}
-use Rattle.rules.proofs.ReasonsGood.{good14, good25, good3, good6, good7, good8, good9, good10, good10-course, good11, good12, good12-course}
+use Rattle.rules.proofs.FactAtLaws.{pair_right, bound_right, all_found}
+use Rattle.rules.proofs.ReasonsGood.{good14, good25, good3, good6, good7, good8, good9, good10, good10_course, good11, good12, good12_course}
 use Rattle.rules.proofs.ListsKept.{judged_is, rule10_again}
 use Rattle.rules.proofs.RulesHeld.{rule11_is}
 use Rattle.promises.specs.Reasons.{Explained, InTwo, StepsExplained}
@@ -77,8 +77,8 @@ steps_explained = record {
   rule_7 = λ y j a l. explained y (reason7 y j) (good7 y j a l);
   rule_8 = λ y j a l. explained y (reason8 y j) (good8 y j a l);
   rule_9 = λ y j a l. explained y (reason9 y j) (good9 y j a l);
-  rule_10 = λ y j a l. (explained y (reason10 y j) (good10 y j l), λ i h. explained y (reason10_course y j i) (good10-course y j l i h));
-  rule_12 = λ y j a l. (explained y (reason12 y j) (good12 y j a l), λ i h. explained y (reason12_course y j i) (good12-course y j a l i h));
+  rule_10 = λ y j a l. (explained y (reason10 y j) (good10 y j l), λ i h. explained y (reason10_course y j i) (good10_course y j l i h));
+  rule_12 = λ y j a l. (explained y (reason12 y j) (good12 y j a l), λ i h. explained y (reason12_course y j i) (good12_course y j a l i h));
   rule_11 = λ y a. explained y (reason11 y) (good11 y a);
   by_1 = by_1;
   by_2 = by_2;
@@ -94,7 +94,7 @@ steps_explained = record {
   by_12 = by_12;
   by_12_course = by_12_course;
   by_11 = rule11_is;
-  found = λ y b. record { pairs = pair-right y b; bounds = bound-right y b; every = all_found y b };
+  found = λ y b. record { pairs = pair_right y b; bounds = bound_right y b; every = all_found y b };
   plans_meet = plan_meets;
   plans_conclude = λ y r e p plan. plan_concludes y r.basis r.change e.suffices p plan;
 }

@@ -30,13 +30,13 @@ tells_length n =
 -- ---- the rows of a term
 
 module _ (s : List ℕ) (k : ℕ) (is : byte_of s k 0 ≡ T) where
-  pub term-letter : before s C k ≡ 0 → Wrong s k 2 → ⊥
-  term-letter none (neither_letter t c) = t is
-  term-letter none (course_first z c) = omega arith
-  term-letter none (term_behind_course t h) = omega arith
+  pub term_letter : before s C k ≡ 0 → Wrong s k 2 → ⊥
+  term_letter none (neither_letter t c) = t is
+  term_letter none (course_first z c) = omega arith
+  term_letter none (term_behind_course t h) = omega arith
 
-  pub term-number : Tells (not (bears_next s (k * 16) (before s T k) 16)) (Wrong s k 3)
-  term-number = tells_same (not (bears_next s (k * 16) (before s T k) 16)) (tells_number s (k * 16) (before s T k) 16) (⊎_elim (not_next_term is) (past_terms is)) back
+  pub term_number : Tells (not (bears_next s (k * 16) (before s T k) 16)) (Wrong s k 3)
+  term_number = tells_same (not (bears_next s (k * 16) (before s T k) 16)) (tells_number s (k * 16) (before s T k) 16) (⊎_elim (not_next_term is) (past_terms is)) back
     where
       back : Wrong s k 3 → (byte_of s k 1 ≡ before s T k → ⊥) ⊎ (16 ≤ byte_of s k 1)
       back (not_next_term t d) = inl d
@@ -44,8 +44,8 @@ module _ (s : List ℕ) (k : ℕ) (is : byte_of s k 0 ≡ T) where
       back (not_next_course c d) = absurd (omega arith)
       back (past_courses c h) = absurd (omega arith)
 
-  pub term-size : Tells (bad_bounds s (k * 16)) (Wrong s k 4)
-  term-size =
+  pub term_size : Tells (bad_bounds s (k * 16)) (Wrong s k 4)
+  term_size =
       tells_same (bad_bounds s (k * 16))
       (tells_or (ltb 64000 (word_of s k 2) || ltb 64000 (word_of s k 4) || ltb 64 (word_of s k 6)) (ltb 64 (word_of s k 8))
       (tells_or (ltb 64000 (word_of s k 2) || ltb 64000 (word_of s k 4)) (ltb 64 (word_of s k 6))
@@ -63,8 +63,8 @@ module _ (s : List ℕ) (k : ℕ) (is : byte_of s k 0 ≡ T) where
       back (weightless c h) = absurd (omega arith)
       back (too_heavy c h) = absurd (omega arith)
 
-  pub term-order : Tells (bad_order s (k * 16)) (Wrong s k 5)
-  term-order =
+  pub term_order : Tells (bad_order s (k * 16)) (Wrong s k 5)
+  term_order =
       tells_same (bad_order s (k * 16))
       (tells_or (ltb (word_of s k 4) (word_of s k 2)) (ltb (word_of s k 8) (word_of s k 6)) (tells_lt (word_of s k 4) (word_of s k 2)) (tells_lt (word_of s k 8) (word_of s k 6)))
       (⊎_elim (credits_crossed is) (counts_crossed is))
@@ -74,12 +74,12 @@ module _ (s : List ℕ) (k : ℕ) (is : byte_of s k 0 ≡ T) where
       back (credits_crossed t h) = inl h
       back (counts_crossed t h) = inr h
 
-  pub term-list : Wrong s k 6 → ⊥
-  term-list (list_empty c z) = omega arith
-  term-list (term_lacking j c h b) = omega arith
+  pub term_list : Wrong s k 6 → ⊥
+  term_list (list_empty c z) = omega arith
+  term_list (term_lacking j c h b) = omega arith
 
-  pub term-padding : Tells (not (blank_from s (k * 16) 10)) (Wrong s k 7)
-  term-padding = tells_same (not (blank_from s (k * 16) 10)) (tells_blank s (k * 16) 10) (λ r. term_not_zero r.0 is r.1 r.2 r.3) back
+  pub term_padding : Tells (not (blank_from s (k * 16) 10)) (Wrong s k 7)
+  term_padding = tells_same (not (blank_from s (k * 16) 10)) (tells_blank s (k * 16) 10) (λ r. term_not_zero r.0 is r.1 r.2 r.3) back
     where
       back : Wrong s k 7 → (b : ℕ) × (10 ≤ b) × (b < 16) × (byte_of s k b ≡ 0 → ⊥)
       back (term_not_zero b t low high n) = (b, low, high, n)
@@ -88,13 +88,13 @@ module _ (s : List ℕ) (k : ℕ) (is : byte_of s k 0 ≡ T) where
 -- ---- the rows of a course
 
 module _ (s : List ℕ) (k : ℕ) (is : byte_of s k 0 ≡ C) where
-  pub course-letter : 1 ≤ k → Wrong s k 2 → ⊥
-  course-letter some (neither_letter t c) = c is
-  course-letter some (course_first z c) = omega arith
-  course-letter some (term_behind_course t h) = omega arith
+  pub course_letter : 1 ≤ k → Wrong s k 2 → ⊥
+  course_letter some (neither_letter t c) = c is
+  course_letter some (course_first z c) = omega arith
+  course_letter some (term_behind_course t h) = omega arith
 
-  pub course-number : Tells (not (bears_next s (k * 16) (before s C k) 64)) (Wrong s k 3)
-  course-number = tells_same (not (bears_next s (k * 16) (before s C k) 64)) (tells_number s (k * 16) (before s C k) 64) (⊎_elim (not_next_course is) (past_courses is)) back
+  pub course_number : Tells (not (bears_next s (k * 16) (before s C k) 64)) (Wrong s k 3)
+  course_number = tells_same (not (bears_next s (k * 16) (before s C k) 64)) (tells_number s (k * 16) (before s C k) 64) (⊎_elim (not_next_course is) (past_courses is)) back
     where
       back : Wrong s k 3 → (byte_of s k 1 ≡ before s C k → ⊥) ⊎ (64 ≤ byte_of s k 1)
       back (not_next_term t d) = absurd (omega arith)
@@ -102,8 +102,8 @@ module _ (s : List ℕ) (k : ℕ) (is : byte_of s k 0 ≡ C) where
       back (not_next_course c d) = inl d
       back (past_courses c h) = inr h
 
-  pub course-size : Tells (bad_weight (word_of s k 2)) (Wrong s k 4)
-  course-size = tells_same (bad_weight (word_of s k 2)) (tells_weight (word_of s k 2)) (⊎_elim (weightless is) (too_heavy is)) back
+  pub course_size : Tells (bad_weight (word_of s k 2)) (Wrong s k 4)
+  course_size = tells_same (bad_weight (word_of s k 2)) (tells_weight (word_of s k 2)) (⊎_elim (weightless is) (too_heavy is)) back
     where
       back : Wrong s k 4 → (word_of s k 2 ≡ 0) ⊎ 1000 < word_of s k 2
       back (low_credits_outside t h) = absurd (omega arith)
@@ -113,20 +113,20 @@ module _ (s : List ℕ) (k : ℕ) (is : byte_of s k 0 ≡ C) where
       back (weightless c z) = inl z
       back (too_heavy c h) = inr h
 
-  pub course-order : Wrong s k 5 → ⊥
-  course-order (credits_crossed t h) = omega arith
-  course-order (counts_crossed t h) = omega arith
+  pub course_order : Wrong s k 5 → ⊥
+  course_order (credits_crossed t h) = omega arith
+  course_order (counts_crossed t h) = omega arith
 
-  pub course-list : Tells (bad_list (word_of s k 4) (before s T k)) (Wrong s k 6)
-  course-list =
+  pub course_list : Tells (bad_list (word_of s k 4) (before s T k)) (Wrong s k 6)
+  course_list =
       tells_same (bad_list (word_of s k 4) (before s T k)) (tells_list (word_of s k 4) (before s T k)) (⊎_elim (list_empty is) (λ r. term_lacking r.0 is r.1 r.2)) back
     where
       back : Wrong s k 6 → (word_of s k 4 ≡ 0) ⊎ ((j : ℕ) × (before s T k ≤ j) × (word_of s k 4 / 2 ^ j % 2 ≡ 1))
       back (list_empty c z) = inl z
       back (term_lacking j c h b) = inr (j, h, b)
 
-  pub course-padding : Tells (not (blank_from s (k * 16) 6)) (Wrong s k 7)
-  course-padding = tells_same (not (blank_from s (k * 16) 6)) (tells_blank s (k * 16) 6) (λ r. course_not_zero r.0 is r.1 r.2 r.3) back
+  pub course_padding : Tells (not (blank_from s (k * 16) 6)) (Wrong s k 7)
+  course_padding = tells_same (not (blank_from s (k * 16) 6)) (tells_blank s (k * 16) 6) (λ r. course_not_zero r.0 is r.1 r.2 r.3) back
     where
       back : Wrong s k 7 → (b : ℕ) × (6 ≤ b) × (b < 16) × (byte_of s k b ≡ 0 → ⊥)
       back (term_not_zero b t low high n) = absurd (omega arith)

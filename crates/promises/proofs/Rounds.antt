@@ -21,7 +21,7 @@ use Rattle.filter.specs.Filter.{filtered, at_rest, rounds_from, filter_of}
 use Rattle.filter.specs.Numbers.{filter_number, filter_rounds}
 use Rattle.filter.specs.declared.Answer.TheVariants.{NoPlan, Settled, Open}
 use Rattle.filter.specs.declared.Filtered.{Filtered}
-use Rattle.filter.proofs.RoundLaws.{rounds_left, round-no-plan, round-at-rest, round-alters, round_falls, filter_narrower}
+use Rattle.filter.proofs.RoundLaws.{rounds_left, round_no_plan, round_at_rest, round_alters, round_falls, filter_narrower}
 use Rattle.theory.proofs.ChoiceLaws.{choose_case}
 use Rattle.year.specs.Sums.{all_placed}
 use Rattle.promises.specs.Rounds.{Altering, none, one_more, Ends, finds_no_plan, comes_to_rest, Filtering, MarksTell, Rested, FilteringNarrows}
@@ -82,11 +82,11 @@ one_round y z n t a few rest = go (eqb (round z).rule 0) (round z).altered refl 
     plus = omega arith
 
     go : (b c : Bool) → eqb (round z).rule 0 ≡ b → (round z).altered ≡ c → Filtering y (rounds_from (rounds_left n) y z n)
-    go false c e g = rw (round-no-plan y z n few e, plus) (record { rounds_before_last = n; reached = z; altering = a; ends = finds_no_plan (eqb-false (round z).rule 0 e) })
+    go false c e g = rw (round_no_plan y z n few e, plus) (record { rounds_before_last = n; reached = z; altering = a; ends = finds_no_plan (eqb-false (round z).rule 0 e) })
     go true false e g =
         let q = (round_quiet z t).0 g in
-        rw (round-at-rest y z n few e g, plus, q) (record { rounds_before_last = n; reached = z; altering = a; ends = comes_to_rest (eqb-true (round z).rule 0 e) q })
-    go true true e g = rw (round-alters y z n few e g, plus) (rest (eqb-true (round z).rule 0 e) g)
+        rw (round_at_rest y z n few e g, plus, q) (record { rounds_before_last = n; reached = z; altering = a; ends = comes_to_rest (eqb-true (round z).rule 0 e) q })
+    go true true e g = rw (round_alters y z n few e g, plus) (rest (eqb-true (round z).rule 0 e) g)
 
 -- the rest of a filtering; d is at least the leeway, so it outlasts the altering rounds
 rounds_on : (y z : Year) (n d : ℕ) → Sound z → Altering y n z → leeway z ≤ d → d + n ≤ 1025984 → Filtering y (rounds_from (rounds_left n) y z n)
@@ -102,31 +102,31 @@ filter_runs y s = rw (sound_to y s) (rounds_on y y 0 1025984 s none (leeway_most
 -- ---- and no other answer has such a chain
 
 module _ {y : Year} (s : Sound y) where
-  chain-from : {z : Year} {n : ℕ} → Altering y n z → rounds_from 1025985 y y 0 ≡ rounds_from (rounds_left n) y z n
-  chain-from none = refl
-  chain-from (one_more {n} {z} a r d) =
+  chain_from : {z : Year} {n : ℕ} → Altering y n z → rounds_from 1025985 y y 0 ≡ rounds_from (rounds_left n) y z n
+  chain_from none = refl
+  chain_from (one_more {n} {z} a r d) =
       let t = (altering_narrower s a).sound in
       let plus : n + 1 ≡ suc n = omega arith in
-      chain-from a
-      ∙ round-alters y z n (omega (arith, few_rounds s a)) (eq-eqb (round z).rule 0 r) (altered_where_another z t d)
+      chain_from a
+      ∙ round_alters y z n (omega (arith, few_rounds s a)) (eq-eqb (round z).rule 0 r) (altered_where_another z t d)
       ∙ ap (λ k. rounds_from (rounds_left k) y (round z).year k) plus
 
-  end-from : {z : Year} {n : ℕ} {r : Filtered} → Altering y n z → Ends y n z r → rounds_from (rounds_left n) y z n ≡ r
-  end-from {z} {n} a (finds_no_plan e) =
+  end_from : {z : Year} {n : ℕ} {r : Filtered} → Altering y n z → Ends y n z r → rounds_from (rounds_left n) y z n ≡ r
+  end_from {z} {n} a (finds_no_plan e) =
       let plus : n + 1 ≡ suc n = omega arith in
-      round-no-plan y z n (omega (arith, few_rounds s a)) (ne_eqb (round z).rule 0 e) ∙ ap (λ k. filtered (NoPlan (round z).rule k) y) plus
-  end-from {z} {n} a (comes_to_rest e q) =
+      round_no_plan y z n (omega (arith, few_rounds s a)) (ne_eqb (round z).rule 0 e) ∙ ap (λ k. filtered (NoPlan (round z).rule k) y) plus
+  end_from {z} {n} a (comes_to_rest e q) =
       let plus : n + 1 ≡ suc n = omega arith in
-      round-at-rest y z n (omega (arith, few_rounds s a)) (eq-eqb (round z).rule 0 e) ((round_quiet z (altering_narrower s a).sound).1 q)
+      round_at_rest y z n (omega (arith, few_rounds s a)) (eq-eqb (round z).rule 0 e) ((round_quiet z (altering_narrower s a).sound).1 q)
       ∙ ap (λ k. filtered (at_rest (round z).year k) (round z).year) plus
       ∙ ap (λ x. filtered (at_rest x (suc n)) x) q
 
-  filter-is : filter_of y ≡ rounds_from 1025985 y y 0
+  filter_is : filter_of y ≡ rounds_from 1025985 y y 0
   unfolding filter_of
-  filter-is = rw (sound_to y s) refl
+  filter_is = rw (sound_to y s) refl
 
   pub no_other : (r : Filtered) → Filtering y r → r ≡ filter_of y
-  no_other r f = sym (filter-is ∙ chain-from f.altering ∙ end-from f.altering f.ends)
+  no_other r f = sym (filter_is ∙ chain_from f.altering ∙ end_from f.altering f.ends)
 
 -- ---- what is handed back
 

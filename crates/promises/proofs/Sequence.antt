@@ -103,24 +103,24 @@ start_sound (records s) e = read_sound s (read_list s).year (read_done s e)
 start_sound (hours t h) e = joined_sound t h e
 
 module _ (first : Year) (calls : List Call) (s : Sound first) where
-  pub sequence-narrower : Narrower first (after calls first)
-  sequence-narrower = narrower_after first calls first (narrower_self first s)
+  pub sequence_narrower : Narrower first (after calls first)
+  sequence_narrower = narrower_after first calls first (narrower_self first s)
 
   -- for any calls, so also for those made up to any point of a longer sequence
-  pub sequence-plans : (p : Placing) → Plan (after calls first) p ↔ PlanThatMeets first calls p
-  sequence-plans = plans_after first calls first (narrower_self first s)
+  pub sequence_plans : (p : Placing) → Plan (after calls first) p ↔ PlanThatMeets first calls p
+  sequence_plans = plans_after first calls first (narrower_self first s)
 
   -- a filtering after the calls that says no plan (13): no plan of the first year meets them
-  pub sequence-no-plan : (result filter (after calls first)).number ≡ 13 → (p : Placing) → PlanThatMeets first calls p → ⊥
-  sequence-no-plan e p h = (filter_kept (after calls first)).no_plan e p ((sequence-plans p).1 h)
+  pub sequence_no_plan : (result filter (after calls first)).number ≡ 13 → (p : Placing) → PlanThatMeets first calls p → ⊥
+  sequence_no_plan e p h = (filter_kept (after calls first)).no_plan e p ((sequence_plans p).1 h)
 
   -- a filtering after the calls that says settled: its year's placing is the one plan of the first year that meets them
-  pub sequence-settled : is_settled (filter_of (after calls first)).answer ≡ true
+  pub sequence_settled : is_settled (filter_of (after calls first)).answer ≡ true
       → let p = the_placing (filter_of (after calls first)).year in
       PlanThatMeets first calls p × ((q : Placing) → PlanThatMeets first calls q → (i : ℕ) → i < first.courses → q i ≡ p i)
-  sequence-settled e =
+  sequence_settled e =
       let y = after calls first in
-      let one = settled_one y sequence-narrower.sound e in (
-        (sequence-plans (the_placing (filter_of y).year)).0 one.plan,
-        λ q h i l. one.only q ((sequence-plans q).1 h) i (omega (arith, sequence-narrower.courses_same)),
+      let one = settled_one y sequence_narrower.sound e in (
+        (sequence_plans (the_placing (filter_of y).year)).0 one.plan,
+        λ q h i l. one.only q ((sequence_plans q).1 h) i (omega (arith, sequence_narrower.courses_same)),
       )

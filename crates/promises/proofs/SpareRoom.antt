@@ -17,7 +17,7 @@ use Rattle.theory.specs.Sum.{pick, sum}
 use Rattle.theory.specs.Tab.{tab}
 use Rattle.theory.specs.Walk.{Table, Reached, walk}
 use Rattle.theory.proofs.ChoiceLaws.{choose_case, choose_any}
-use Rattle.theory.proofs.FoldLaws.{fold-keeps}
+use Rattle.theory.proofs.FoldLaws.{fold_keeps}
 use Rattle.year.specs.Year.{term_at, weight, low_credits, low_count, high_count}
 use Rattle.year.specs.Bound.{tightened}
 use Rattle.year.specs.Doors.{with_term}
@@ -56,7 +56,7 @@ module _ (y : Year) (A : Year → ℕ → Type 0) (f : Year → ℕ → Step) (l
   known_over : (s : Step) (m : ℕ) → m ≤ y.terms → Narrower y s.year × ((k : ℕ) → k < y.terms → A s.year k)
       → Narrower y (over_to f s m).year × ((k : ℕ) → k < y.terms → A (over_to f s m).year k)
   known_over s m h =
-      fold-keeps goes (then f) s (λ t. Narrower y t.year × ((k : ℕ) → k < y.terms → A t.year k)) m
+      fold_keeps goes (then f) s (λ t. Narrower y t.year × ((k : ℕ) → k < y.terms → A t.year k)) m
       (λ t j l e a. let z = t.year in (
         narrower_then y z (f z j).year a.0 (law z j a.0.sound (omega (arith, a.0.terms_same))).0.year,
         λ k q. stays z j k a.0.sound (omega (arith, a.0.terms_same)) (a.1 k q),
@@ -78,12 +78,12 @@ module _ (y : Year) (A : Year → ℕ → Type 0) (f : Year → ℕ → Step) (l
         go k q (yes e) new old = rw e new
         go k q (no d) new old = old (omega arith)
 
-    made-over : (s : Step) → Narrower y s.year → (m : ℕ) → m ≤ y.terms → Made m (over_to f s m)
+    made_over : (s : Step) → Narrower y s.year → (m : ℕ) → m ≤ y.terms → Made m (over_to f s m)
     unfolding fold
-    made-over s a zero h = (a, λ e k l. absurd (omega arith))
-    made-over s a (suc m) h =
+    made_over s a zero h = (a, λ e k l. absurd (omega arith))
+    made_over s a (suc m) h =
         let t : Step = over_to f s m in
-        let b = made-over s a m (omega arith) in
+        let b = made_over s a m (omega arith) in
         let c = made_more t m b (omega arith) in
         choose_case (Made (suc m)) (eqb t.rule 0) _ t (λ e. (c.0, λ r. c.1 r (eqb-true t.rule 0 e))) (λ e. (b.0, λ r. absurd (eqb-false t.rule 0 e r)))
 
@@ -173,49 +173,49 @@ module _ (y : Year) (sound : Sound y) where
   narrower_after : (a : ℕ) → Narrower y (after_rule y a).year
   narrower_after a = row_narrower (passes_of 1 a) (lawful_part 1 a) y (live y) (narrower_self y sound)
 
-  terms-after : (a : ℕ) → (after_rule y a).year.terms ≤ y.terms
-  terms-after a = le_of_eq (narrower_after a).terms_same
+  terms_after : (a : ℕ) → (after_rule y a).year.terms ≤ y.terms
+  terms_after a = le_of_eq (narrower_after a).terms_same
 
   module _ (alive : (after_rule y 4).rule ≡ 0) where
     abbrev Roomy : Year → Type 0
     Roomy z = Narrower y z × ((k : ℕ) → k < y.terms → Room z k)
 
-    spared-of : (z : Year) → Roomy z → Spared z
-    spared-of z a k l = let r = a.1 k (omega (arith, a.0.terms_same)) in (r.0, omega (arith, r, a.0.sound.term_sound k l))
+    spared_of : (z : Year) → Roomy z → Spared z
+    spared_of z a k l = let r = a.1 k (omega (arith, a.0.terms_same)) in (r.0, omega (arith, r, a.0.sound.term_sound k l))
 
     -- a rule on bounds leaves room, at each of its terms and behind the last
-    roomy-at : (f : Year → ℕ → Step) → AtTerms Held f → KeepsLists f → (s : Step) → Roomy s.year → (j : ℕ) → j ≤ y.terms → Roomy (seen_at f s j)
-    roomy-at f law same s a j h = known_over y Room f law (room_stays f law same) s j h a
+    roomy_at : (f : Year → ℕ → Step) → AtTerms Held f → KeepsLists f → (s : Step) → Roomy s.year → (j : ℕ) → j ≤ y.terms → Roomy (seen_at f s j)
+    roomy_at f law same s a j h = known_over y Room f law (room_stays f law same) s j h a
 
-    roomy-4 : Roomy (after_rule y 4).year
-    roomy-4 =
-        let b = made-over y Room rule4 rule4_held (room_stays rule4 rule4_held lists_4) room_made (after_rule y 3) (narrower_after 3) (after_rule y 3).year.terms (terms-after 3) in
+    roomy_4 : Roomy (after_rule y 4).year
+    roomy_4 =
+        let b = made_over y Room rule4 rule4_held (room_stays rule4 rule4_held lists_4) room_made (after_rule y 3) (narrower_after 3) (after_rule y 3).year.terms (terms_after 3) in
         (b.0, λ k l. b.1 alive k (omega (arith, (narrower_after 3).terms_same)))
 
-    roomy-5 : Roomy (after_rule y 5).year
-    roomy-5 = roomy-at rule5 rule5_held lists_5 (after_rule y 4) roomy-4 (after_rule y 4).year.terms (terms-after 4)
+    roomy_5 : Roomy (after_rule y 5).year
+    roomy_5 = roomy_at rule5 rule5_held lists_5 (after_rule y 4) roomy_4 (after_rule y 4).year.terms (terms_after 4)
 
-    roomy-6 : Roomy (after_rule y 6).year
-    roomy-6 = roomy-at rule6 rule6_held lists_6 (after_rule y 5) roomy-5 (after_rule y 5).year.terms (terms-after 5)
+    roomy_6 : Roomy (after_rule y 6).year
+    roomy_6 = roomy_at rule6 rule6_held lists_6 (after_rule y 5) roomy_5 (after_rule y 5).year.terms (terms_after 5)
 
-    roomy-7 : Roomy (after_rule y 7).year
-    roomy-7 = roomy-at rule7 rule7_held lists_7 (after_rule y 6) roomy-6 (after_rule y 6).year.terms (terms-after 6)
+    roomy_7 : Roomy (after_rule y 7).year
+    roomy_7 = roomy_at rule7 rule7_held lists_7 (after_rule y 6) roomy_6 (after_rule y 6).year.terms (terms_after 6)
 
-    roomy-8 : Roomy (after_rule y 8).year
-    roomy-8 = roomy-at rule8 rule8_held lists_8 (after_rule y 7) roomy-7 (after_rule y 7).year.terms (terms-after 7)
+    roomy_8 : Roomy (after_rule y 8).year
+    roomy_8 = roomy_at rule8 rule8_held lists_8 (after_rule y 7) roomy_7 (after_rule y 7).year.terms (terms_after 7)
 
 -- the years that rules 6 to 9 see at each of their terms
 spared_6 : SparedAt rule6 5
-spared_6 y s alive j h = spared-of y s alive _ (roomy-at y s alive rule6 rule6_held lists_6 (after_rule y 5) (roomy-5 y s alive) j h)
+spared_6 y s alive j h = spared_of y s alive _ (roomy_at y s alive rule6 rule6_held lists_6 (after_rule y 5) (roomy_5 y s alive) j h)
 
 spared_7 : SparedAt rule7 6
-spared_7 y s alive j h = spared-of y s alive _ (roomy-at y s alive rule7 rule7_held lists_7 (after_rule y 6) (roomy-6 y s alive) j h)
+spared_7 y s alive j h = spared_of y s alive _ (roomy_at y s alive rule7 rule7_held lists_7 (after_rule y 6) (roomy_6 y s alive) j h)
 
 spared_8 : SparedAt rule8 7
-spared_8 y s alive j h = spared-of y s alive _ (roomy-at y s alive rule8 rule8_held lists_8 (after_rule y 7) (roomy-7 y s alive) j h)
+spared_8 y s alive j h = spared_of y s alive _ (roomy_at y s alive rule8 rule8_held lists_8 (after_rule y 7) (roomy_7 y s alive) j h)
 
 spared_9 : SparedAt rule9 8
-spared_9 y s alive j h = spared-of y s alive _ (roomy-at y s alive rule9 rule9_held lists_9 (after_rule y 8) (roomy-8 y s alive) j h)
+spared_9 y s alive j h = spared_of y s alive _ (roomy_at y s alive rule9 rule9_held lists_9 (after_rule y 8) (roomy_8 y s alive) j h)
 
 -- ---- rule 8 reaches the low count
 
@@ -247,13 +247,13 @@ walk_same : (z x : Year) → Narrower z x → x.list ≡ z.list → ((i : ℕ) �
 unfolding walk_of spares up fixed_credits fixed_count open_count
 walk_same z x w e lows k u =
     (λ i. walk_of (like i) k u (up (like i)))
-    ∙ ap (λ (s : List ℕ). walk (table z k) (weight z) (stops u) (open_of z k (up z)) s (fixed_credits z k) (fixed_count z k)) (ap (tab 16) (fun_ext spare-is))
+    ∙ ap (λ (s : List ℕ). walk (table z k) (weight z) (stops u) (open_of z k (up z)) s (fixed_credits z k) (fixed_count z k)) (ap (tab 16) (fun_ext spare_is))
   where
     like : x ≡ record { terms = x.terms; courses = z.courses; term = x.term; weight = z.weight; list = z.list; sums = x.sums }
     like = λ i. record { terms = x.terms; courses = w.courses_same i; term = x.term; weight = w.weight_same i; list = e i; sums = x.sums }
 
-    spare-is : (i : ℕ) → open_count z i - (low_count x i - fixed_count z i) ≡ spare z i
-    spare-is i = ap (λ n. open_count z i - (n - fixed_count z i)) (lows i)
+    spare_is : (i : ℕ) → open_count z i - (low_count x i - fixed_count z i) ≡ spare z i
+    spare_is i = ap (λ n. open_count z i - (n - fixed_count z i)) (lows i)
 
 -- the high count is at most what some walk up, whatever its high credits, counts
 abbrev Within : Year → ℕ → Type 0
@@ -306,7 +306,7 @@ module _ (y : Year) (sound : Sound y) (alive : (after_rule y 7).rule ≡ 0) (j :
   within : Narrower y seen × ((k : ℕ) → k < y.terms → Within seen k)
   within =
       let n = narrower_after y sound 6 in
-      let b = made-over y Within rule7 rule7_held (within_stays rule7 rule7_held lists_7 low_7) within_made (after_rule y 6) n (after_rule y 6).year.terms (le_of_eq n.terms_same) in
+      let b = made_over y Within rule7 rule7_held (within_stays rule7 rule7_held lists_7 low_7) within_made (after_rule y 6) n (after_rule y 6).year.terms (le_of_eq n.terms_same) in
       known_over y Within rule8 rule8_held (within_stays rule8 rule8_held lists_8 low_8) (after_rule y 7) j (omega arith)
       (b.0, λ k l. b.1 alive k (omega (arith, n.terms_same)))
 

@@ -9,7 +9,7 @@ use native.Mathlib.Omega.{arith}
 use native.Mathlib.Decide.{ℕ_discrete, dec_lt}
 use lib.Dec.{eqb, leb, ltb}
 use lib.Pow.{pow_pos}
-use borrow.Author.Tests.{ltb-true, ltb-false, leb-true, leb-false, eqb-true, eqb-false, eq-eqb, not_true, not-false}
+use borrow.Author.Tests.{ltb-true, ltb-false, leb-true, leb-false, eqb-true, eqb-false, eq-eqb, not-true, not-false}
 use Rattle.theory.proofs.BitLaws.{has_above, has_below}
 use Rattle.theory.proofs.TestLaws.{all_at, all_false}
 use Rattle.records.specs.Bytes.{byte_at, blank_at, blank_from}
@@ -31,7 +31,7 @@ pub tells_le : (a b : ℕ) → Tells (leb a b) (a ≤ b)
 tells_le a b = (leb-true a b, λ e h. omega (arith, leb-false a b e))
 
 pub tells_not : {P : Type 0} (b : Bool) → Tells b P → Tells (not b) (P → ⊥)
-tells_not b t = (λ e. t.1 (not_true b e), λ e n. n (t.0 (not-false b e)))
+tells_not b t = (λ e. t.1 (not-true b e), λ e n. n (t.0 (not-false b e)))
 
 pub tells_and : {P Q : Type 0} (a b : Bool) → Tells a P → Tells b Q → Tells (a && b) (P × Q)
 tells_and true b p q = (λ e. (p.0 refl, q.0 e), λ e r. q.1 e r.1)
@@ -82,7 +82,7 @@ tells_blank s at k = (there, back)
   where
     there : not (blank_from s at k) ≡ true → (b : ℕ) × (k ≤ b) × (b < 16) × (byte_at s at b ≡ 0 → ⊥)
     there e =
-        let r = all_false (16 - k) (blank_at s at k) (not_true (blank_from s at k) e) in
+        let r = all_false (16 - k) (blank_at s at k) (not-true (blank_from s at k) e) in
         (k + r.0, omega arith, omega (arith, r.1), eqb-false _ _ r.2)
 
     back : not (blank_from s at k) ≡ false → ((b : ℕ) × (k ≤ b) × (b < 16) × (byte_at s at b ≡ 0 → ⊥)) → ⊥

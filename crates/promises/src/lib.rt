@@ -1,1 +1,2 @@
+#![tactic(auto)]
 // What is promised: statements in specs/, their proofs in proofs/, no code.

@@ -136,19 +136,19 @@ course_read s at next terms c e = go (bears_next s at next 64) refl e
 
 -- by its letter, and by what stands before it
 module _ (s : List ℕ) (at terms courses : ℕ) where
-  pub at-term : (eqb (letter_at s at) 84 && eqb courses 0) ≡ true → record_at s at terms courses ≡ of_term (term_record s at terms)
+  pub at_term : (eqb (letter_at s at) 84 && eqb courses 0) ≡ true → record_at s at terms courses ≡ of_term (term_record s at terms)
   unfolding record_at
-  at-term p = rw p refl
+  at_term p = rw p refl
 
-  pub at-course : (eqb (letter_at s at) 67 && leb 1 terms) ≡ true → record_at s at terms courses ≡ of_course (course_record s at courses terms)
+  pub at_course : (eqb (letter_at s at) 67 && leb 1 terms) ≡ true → record_at s at terms courses ≡ of_course (course_record s at courses terms)
   unfolding record_at
-  at-course p =
+  at_course p =
       let q = and_true (eqb (letter_at s at) 67) (leb 1 terms) p in
       rw (eqb-true (letter_at s at) 67 q.0, q.1) refl
 
-  pub at-neither : (eqb (letter_at s at) 84 && eqb courses 0) ≡ false → (eqb (letter_at s at) 67 && leb 1 terms) ≡ false → record_at s at terms courses ≡ Faulty fault.Letter
+  pub at_neither : (eqb (letter_at s at) 84 && eqb courses 0) ≡ false → (eqb (letter_at s at) 67 && leb 1 terms) ≡ false → record_at s at terms courses ≡ Faulty fault.Letter
   unfolding record_at
-  at-neither p q = rw (p, q) refl
+  at_neither p q = rw (p, q) refl
 
 -- a record of a list that is a term was read as a term's, and so with a course
 pub of_term_lem : (r : AsTerm) (t : Term) → of_term r ≡ OfTerm t → r ≡ asTerm.Good t

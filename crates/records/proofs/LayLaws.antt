@@ -32,14 +32,14 @@ unfolding laid
 laid_paste b at l n e = rw (sym e, take_all (length l) l (le_refl (length l))) refl
 
 module _ (b : List ℕ) (at : ℕ) (l : List ℕ) (fits : at + length l ≤ length b) where
-  head-length : length (take at b ++ l) ≡ at + length l
-  head-length =
+  head_length : length (take at b ++ l) ≡ at + length l
+  head_length =
       length-append (take at b) l ∙ ap (λ (n : ℕ). n + length l) (length-take-le at b (omega arith))
 
-  pub length-laid : length (laid b at l) ≡ length b
+  pub length_laid : length (laid b at l) ≡ length b
   unfolding laid
-  length-laid =
-      length-append (take at b ++ l) (drop (at + length l) b) ∙ omega (arith, head-length, length-drop (at + length l) b)
+  length_laid =
+      length-append (take at b ++ l) (drop (at + length l) b) ∙ omega (arith, head_length, length-drop (at + length l) b)
 
   -- what is laid behind the last block
   pub laid_more : (m : List ℕ) → laid (laid b at l) (at + length l) m ≡ laid b at (l ++ m)
@@ -47,10 +47,10 @@ module _ (b : List ℕ) (at : ℕ) (l : List ℕ) (fits : at + length l ≤ leng
   laid_more m =
       let x = take at b ++ l in
       let n = at + length l in
-      let front : take n (x ++ drop n b) ≡ x = take_at x (drop n b) n head-length in
+      let front : take n (x ++ drop n b) ≡ x = take_at x (drop n b) n head_length in
       let back : drop (n + length m) (x ++ drop n b) ≡ drop (at + length (l ++ m)) b =
       sym (drop-drop (length m) n (x ++ drop n b))
-      ∙ ap (drop (length m)) (drop_at x (drop n b) n head-length)
+      ∙ ap (drop (length m)) (drop_at x (drop n b) n head_length)
       ∙ drop-drop (length m) n b
       ∙ ap (λ (k : ℕ). drop k b) (add_assoc at (length l) (length m) ∙ ap (λ (k : ℕ). at + k) (sym (length-append l m))) in
       ap₂ (λ (p q : List ℕ). p ++ m ++ q) front back ∙ ap (λ (p : List ℕ). p ++ drop (at + length (l ++ m)) b) (append_assoc (take at b) l m)
@@ -65,4 +65,4 @@ laid_block b at f n p h e fits =
     ∙ ap (laid b at) (sym (joined_more f n))
 
 pub length_blocks : (b : List ℕ) (at : ℕ) (f : ℕ → List ℕ) (n : ℕ) → ((i : ℕ) → length (f i) ≡ 16) → at + n * 16 ≤ length b → length (laid b at (joined f n)) ≡ length b
-length_blocks b at f n h fits = length-laid b at (joined f n) (omega (arith, length_joined f n h))
+length_blocks b at f n h fits = length_laid b at (joined f n) (omega (arith, length_joined f n h))

@@ -20,7 +20,7 @@ use Rattle.records.specs.declared.Reading.TheVariants.{Refused}
 use Rattle.records.specs.declared.Received.{Received}
 use Rattle.records.specs.Reading.{OfTerm, OfCourse, blank_year, add_term, add_course, done, refused, record_in, read_to, bad_length, summed, read_list}
 use Rattle.records.proofs.EntryLaws.{record_term, record_course}
-use Rattle.records.proofs.GatherLaws.{gathered-keeps, FirstFault, listed-done, listed-refused, summed_refused, Begun, begun_blank, begun-term, begun-course, begun_sound}
+use Rattle.records.proofs.GatherLaws.{gathered_keeps, FirstFault, listed_done, listed_refused, summed_refused, Begun, begun_blank, begun_term, begun_course, begun_sound}
 
 -- ---- the first k records give the front of a sound year
 
@@ -38,7 +38,7 @@ front_term s k y t f e =
     record {
       count = omega (arith, f.count);
       some_term = λ h. omega arith;
-      begun = begun-term y t f.begun r.2.room (rw (sym r.2.held.holds) r.2.held.sound) r.1;
+      begun = begun_term y t f.begun r.2.room (rw (sym r.2.held.holds) r.2.held.sound) r.1;
     }
 
 pub front_course : (s : List ℕ) (k : ℕ) (y : Year) (c : Course) → Front k y → record_in s k y ≡ OfCourse c → Front (suc k) (add_course y c)
@@ -47,11 +47,11 @@ front_course s k y c f e =
     record {
       count = omega (arith, f.count);
       some_term = λ h. r.1;
-      begun = begun-course y c f.begun r.2.room (rw (sym r.2.held.holds) r.2.held.sound);
+      begun = begun_course y c f.begun r.2.room (rw (sym r.2.held.holds) r.2.held.sound);
     }
 
 pub read_front : (s : List ℕ) (k : ℕ) (y : Year) → read_to s k ≡ done y → Front k y
-read_front s = gathered-keeps (record_in s) blank_year Front front_start (front_term s) (front_course s)
+read_front s = gathered_keeps (record_in s) blank_year Front front_start (front_term s) (front_course s)
 
 -- ---- the whole list
 
@@ -70,7 +70,7 @@ pub list_read : (s : List ℕ) (y : Year) → read_list s ≡ done y
     → (1 ≤ length s / 16) × (length s / 16 * 16 ≡ length s) × (z : Year) × (read_to s (length s / 16) ≡ done z) × (with_sums z ≡ y)
 unfolding read_list
 list_read s y e =
-    let d = listed-done (bad_length (length s)) (record_in s) blank_year (length s / 16) (ap (λ (r : Received). r.answer) e) in
+    let d = listed_done (bad_length (length s)) (record_in s) blank_year (length s / 16) (ap (λ (r : Received). r.answer) e) in
     let g = length_good (length s) d.0 in
     (g.0, g.1, _, d.1, ap (λ (r : Received). r.year) e)
 
@@ -78,12 +78,12 @@ list_read s y e =
 pub list_refused : (s : List ℕ) (f : Fault) (k : ℕ) → (read_list s).answer ≡ Refused f k → read_list s ≡ refused f k
 unfolding read_list
 list_refused s f k e =
-    ap summed (listed-refused (bad_length (length s)) (record_in s) blank_year (length s / 16) f k e).0 ∙ summed_refused f k
+    ap summed (listed_refused (bad_length (length s)) (record_in s) blank_year (length s / 16) f k e).0 ∙ summed_refused f k
 
 -- a list has 80 records at most, and a refusal by length is at place 0
 pub place_few : (s : List ℕ) (f : Fault) (k : ℕ) → (read_list s).answer ≡ Refused f k → k ≤ 80
 unfolding read_list
-place_few s f k e = go (listed-refused (bad_length (length s)) (record_in s) blank_year (length s / 16) f k e).1
+place_few s f k e = go (listed_refused (bad_length (length s)) (record_in s) blank_year (length s / 16) f k e).1
   where
     go : ((bad_length (length s) ≡ true) × (f ≡ fault.Length) × (k ≡ 0)) ⊎ ((bad_length (length s) ≡ false) × (k < length s / 16) × FirstFault (record_in s) blank_year f k) → k ≤ 80
     go (inl (b, g, z)) = omega arith

@@ -21,7 +21,7 @@ use Rattle.records.specs.Reading.{OfTerm, OfCourse, blank_year, add_term, add_co
 use Rattle.records.specs.Writing.{term_bytes, course_bytes, term_block, course_block, joined, records_of}
 use Rattle.records.proofs.EntryLaws.{term_in, TermRead, CourseRead, record_term, record_course}
 use Rattle.records.proofs.LayLaws.{joined_more}
-use Rattle.records.proofs.GatherLaws.{gathered-keeps, Begun, term-added, term-before, course-added, course-before}
+use Rattle.records.proofs.GatherLaws.{gathered_keeps, Begun, term_added, term_before, course_added, course_before}
 use Rattle.records.proofs.ListLaws.{Front, front_start, front_term, front_course, list_read}
 
 -- ---- sixteen bytes of a list
@@ -55,17 +55,17 @@ module _ (s : List ℕ) (at : ℕ) (fits : at + 16 ≤ length s) (bytes : AllByt
   letter : (x : ℕ) → letter_at s at ≡ x → byte_at s at 0 ≡ x
   letter x e = ap (λ (n : ℕ). get_or s n 0) (add-zero at) ∙ e
 
-  pub term-back : (n : ℕ) (t : Term) → letter_at s at ≡ 84 → TermRead s at n t → take 16 (drop at s) ≡ term_bytes n t
+  pub term_back : (n : ℕ) (t : Term) → letter_at s at ≡ 84 → TermRead s at n t → take 16 (drop at s) ≡ term_bytes n t
   unfolding tab
-  term-back n t e r =
+  term_back n t e r =
       let z : (i : ℕ) → i < 6 → byte_at s at (10 + i) ≡ 0 = λ i. blank_byte s at 10 i r.held.blank in
       let is : tab 16 (byte_at s at) ≡ term_bytes n (term_in s at) =
       cc (letter 84 e, r.number, high 2 (lit< tt), low 2 (lit< tt), high 4 (lit< tt), low 4 (lit< tt), high 6 (lit< tt), low 6 (lit< tt), high 8 (lit< tt), low 8 (lit< tt), z 0 (lit< tt), z 1 (lit< tt), z 2 (lit< tt), z 3 (lit< tt), z 4 (lit< tt), z 5 (lit< tt)) in
       taken_bytes s at 16 fits ∙ is ∙ ap (term_bytes n) r.held.holds
 
-  pub course-back : (n terms : ℕ) (c : Course) → letter_at s at ≡ 67 → CourseRead s at n terms c → take 16 (drop at s) ≡ course_bytes n c
+  pub course_back : (n terms : ℕ) (c : Course) → letter_at s at ≡ 67 → CourseRead s at n terms c → take 16 (drop at s) ≡ course_bytes n c
   unfolding tab
-  course-back n terms c e r =
+  course_back n terms c e r =
       let z : (i : ℕ) → i < 10 → byte_at s at (6 + i) ≡ 0 = λ i. blank_byte s at 6 i r.held.blank in
       let is : tab 16 (byte_at s at) ≡ course_bytes n (course_of (word_at s at 2) (word_at s at 4)) =
       cc (letter 67 e, r.number, high 2 (lit< tt), low 2 (lit< tt), high 4 (lit< tt), low 4 (lit< tt), z 0 (lit< tt), z 1 (lit< tt), z 2 (lit< tt), z 3 (lit< tt), z 4 (lit< tt), z 5 (lit< tt), z 6 (lit< tt), z 7 (lit< tt), z 8 (lit< tt), z 9 (lit< tt)) in
@@ -84,8 +84,8 @@ records_term y t b room none =
     let z = add_term y t in
     let n = y.terms in
     let same : joined (term_block z) n ≡ joined (term_block y) n =
-    joined_same (term_block z) (term_block y) n (λ i l. ap (term_bytes i) (term-before y t b room i (λ q. omega arith))) in
-    let new : term_block z n ≡ term_bytes n t = ap (term_bytes n) (term-added y t b room n refl) in
+    joined_same (term_block z) (term_block y) n (λ i l. ap (term_bytes i) (term_before y t b room i (λ q. omega arith))) in
+    let new : term_block z n ≡ term_bytes n t = ap (term_bytes n) (term_added y t b room n refl) in
     rw none
     (append-nil (joined (term_block z) (n + 1))
     ∙ joined_more (term_block z) n
@@ -97,8 +97,8 @@ records_course y c b room =
     let z = add_course y c in
     let n = y.courses in
     let same : joined (course_block z) n ≡ joined (course_block y) n =
-    joined_same (course_block z) (course_block y) n (λ i l. ap (course_bytes i) (course-before y c b room i (λ q. omega arith))) in
-    let new : course_block z n ≡ course_bytes n c = ap (course_bytes n) (course-added y c b room n refl) in
+    joined_same (course_block z) (course_block y) n (λ i l. ap (course_bytes i) (course_before y c b room i (λ q. omega arith))) in
+    let new : course_block z n ≡ course_bytes n c = ap (course_bytes n) (course_added y c b room n refl) in
     ap (λ (l : List ℕ). joined (term_block y) y.terms ++ l) (joined_more (course_block z) n ∙ ap₂ ◌++◌ same new)
     ∙ sym (append_assoc (joined (term_block y) y.terms) (joined (course_block y) n) (course_bytes n c))
 
@@ -118,29 +118,29 @@ module _ (s : List ℕ) (bytes : AllBytes s) where
       let is : suc k * 16 ≡ k * 16 + 16 = omega arith in
       ap (λ (n : ℕ). take n s) is ∙ take-add (k * 16) 16 s ∙ ap (λ (m : List ℕ). take (k * 16) s ++ m) e
 
-  back-term : (k : ℕ) (y : Year) (t : Term) → Back k y → record_in s k y ≡ OfTerm t → Back (suc k) (add_term y t)
-  back-term k y t p e =
+  back_term : (k : ℕ) (y : Year) (t : Term) → Back k y → record_in s k y ≡ OfTerm t → Back (suc k) (add_term y t)
+  back_term k y t p e =
       let r = record_term s (k * 16) y.terms y.courses t e in (
         front_term s k y t p.0 e,
         λ h.
             records_term y t p.0.begun r.2.room r.1
             ∙ ap (λ (l : List ℕ). l ++ term_bytes y.terms t) (p.1 (omega arith))
-            ∙ sym (further k (term_bytes y.terms t) (term-back s (k * 16) (omega arith) bytes y.terms t r.0 r.2)),
+            ∙ sym (further k (term_bytes y.terms t) (term_back s (k * 16) (omega arith) bytes y.terms t r.0 r.2)),
       )
 
-  back-course : (k : ℕ) (y : Year) (c : Course) → Back k y → record_in s k y ≡ OfCourse c → Back (suc k) (add_course y c)
-  back-course k y c p e =
+  back_course : (k : ℕ) (y : Year) (c : Course) → Back k y → record_in s k y ≡ OfCourse c → Back (suc k) (add_course y c)
+  back_course k y c p e =
       let r = record_course s (k * 16) y.terms y.courses c e in (
         front_course s k y c p.0 e,
         λ h.
             records_course y c p.0.begun r.2.room
             ∙ ap (λ (l : List ℕ). l ++ course_bytes y.courses c) (p.1 (omega arith))
-            ∙ sym (further k (course_bytes y.courses c) (course-back s (k * 16) (omega arith) bytes y.courses y.terms c r.0 r.2)),
+            ∙ sym (further k (course_bytes y.courses c) (course_back s (k * 16) (omega arith) bytes y.courses y.terms c r.0 r.2)),
       )
 
-  pub read-write : (y : Year) → read_list s ≡ done y → records_of y ≡ s
+  pub read_write : (y : Year) → read_list s ≡ done y → records_of y ≡ s
   unfolding records_of
-  read-write y e =
+  read_write y e =
       let l = list_read s y e in
-      let b = gathered-keeps (record_in s) blank_year Back back_start back-term back-course (length s / 16) l.2 l.3 in
+      let b = gathered_keeps (record_in s) blank_year Back back_start back_term back_course (length s / 16) l.2 l.3 in
       ap records_of (sym l.4) ∙ b.1 (omega (arith, l.1)) ∙ ap (λ (n : ℕ). take n s) l.1 ∙ take-length s

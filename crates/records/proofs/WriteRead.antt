@@ -24,7 +24,7 @@ use Rattle.records.specs.Bytes.{letter_at, byte_at}
 use Rattle.records.specs.Reading.{OfTerm, OfCourse, term_by_itself, course_by, term_record, course_record, record_at, blank_year, done, taken, record_in, read_to, summed, read_list}
 use Rattle.records.specs.Writing.{term_bytes, course_bytes, term_block, course_block, joined, records_of}
 use Rattle.records.proofs.LayLaws.{length_joined}
-use Rattle.records.proofs.GatherLaws.{gathered-zero, gathered-more}
+use Rattle.records.proofs.GatherLaws.{gathered_zero, gathered_more}
 use Rattle.records.proofs.WriteLaws.{records_length, records_most}
 
 -- ---- a byte of a block
@@ -44,16 +44,16 @@ get_or_joined f (suc n) i r h l m = go (ℕ_discrete i n) (λ q. get_or_joined f
     go (no d) ih = get_or-append (joined f n) (f n) 0 (i * 16 + r) (omega (arith, d, long)) ∙ ih (omega (arith, d))
 
 module _ (y : Year) where
-  term-byte : (j r : ℕ) → j < y.terms → r < 16 → get_or (records_of y) (j * 16 + r) 0 ≡ get_or (term_block y j) r 0
+  term_byte : (j r : ℕ) → j < y.terms → r < 16 → get_or (records_of y) (j * 16 + r) 0 ≡ get_or (term_block y j) r 0
   unfolding records_of
-  term-byte j r l m =
+  term_byte j r l m =
       let t = joined (term_block y) y.terms in
       get_or-append t (joined (course_block y) y.courses) 0 (j * 16 + r) (omega (arith, length_joined (term_block y) y.terms (λ i. refl)))
       ∙ get_or_joined (term_block y) y.terms j r (λ i. refl) l m
 
-  course-byte : (i r : ℕ) → i < y.courses → r < 16 → get_or (records_of y) ((y.terms + i) * 16 + r) 0 ≡ get_or (course_block y i) r 0
+  course_byte : (i r : ℕ) → i < y.courses → r < 16 → get_or (records_of y) ((y.terms + i) * 16 + r) 0 ≡ get_or (course_block y i) r 0
   unfolding records_of
-  course-byte i r l m =
+  course_byte i r l m =
       let t = joined (term_block y) y.terms in
       let is : (y.terms + i) * 16 + r ≡ length t + (i * 16 + r) = omega (arith, length_joined (term_block y) y.terms (λ i. refl)) in
       ap (λ (k : ℕ). get_or (t ++ joined (course_block y) y.courses) k 0) is
@@ -156,23 +156,23 @@ front_all y s =
 -- ---- the list
 
 module _ (y : Year) (s : Sound y) where
-  reads-terms : (j : ℕ) → j ≤ y.terms → read_to (records_of y) j ≡ done (front y j 0)
+  reads_terms : (j : ℕ) → j ≤ y.terms → read_to (records_of y) j ≡ done (front y j 0)
   unfolding fill
-  reads-terms zero h = gathered-zero (record_in (records_of y)) blank_year
-  reads-terms (suc j) h =
+  reads_terms zero h = gathered_zero (record_in (records_of y)) blank_year
+  reads_terms (suc j) h =
       let is : record_at (records_of y) (j * 16) j 0 ≡ OfTerm (term_at y j) =
-      term_reads (records_of y) (j * 16) j (term_at y j) (λ r m. term-byte y j r (omega arith) m) (s.term_sound j (omega arith)) (omega (arith, s.terms_most)) in
-      gathered-more (record_in (records_of y)) blank_year j (front y j 0) (reads-terms j (omega arith)) ∙ ap (taken (front y j 0) j) is ∙ rw add-one
+      term_reads (records_of y) (j * 16) j (term_at y j) (λ r m. term_byte y j r (omega arith) m) (s.term_sound j (omega arith)) (omega (arith, s.terms_most)) in
+      gathered_more (record_in (records_of y)) blank_year j (front y j 0) (reads_terms j (omega arith)) ∙ ap (taken (front y j 0) j) is ∙ rw add-one
 
-  reads-courses : (i : ℕ) → i ≤ y.courses → read_to (records_of y) (y.terms + i) ≡ done (front y y.terms i)
+  reads_courses : (i : ℕ) → i ≤ y.courses → read_to (records_of y) (y.terms + i) ≡ done (front y y.terms i)
   unfolding fill
-  reads-courses zero h = ap (read_to (records_of y)) (add-zero y.terms) ∙ reads-terms y.terms (omega arith)
-  reads-courses (suc i) h =
+  reads_courses zero h = ap (read_to (records_of y)) (add-zero y.terms) ∙ reads_terms y.terms (omega arith)
+  reads_courses (suc i) h =
       let m = y.terms in
       let is : record_at (records_of y) ((m + i) * 16) m i ≡ OfCourse (course_at y i) =
-      course_reads (records_of y) ((m + i) * 16) i m (course_at y i) (λ r q. course-byte y i r (omega arith) q) (s.course_sound i (omega arith)) (omega (arith, s.courses_most)) s.terms_least in
+      course_reads (records_of y) ((m + i) * 16) i m (course_at y i) (λ r q. course_byte y i r (omega arith) q) (s.course_sound i (omega arith)) (omega (arith, s.courses_most)) s.terms_least in
       ap (read_to (records_of y)) (add-suc m i)
-      ∙ gathered-more (record_in (records_of y)) blank_year (m + i) (front y m i) (reads-courses i (omega arith))
+      ∙ gathered_more (record_in (records_of y)) blank_year (m + i) (front y m i) (reads_courses i (omega arith))
       ∙ ap (taken (front y m i) (m + i)) is
       ∙ rw add-one
 
@@ -183,4 +183,4 @@ module _ (y : Year) (s : Sound y) where
       let l : length (records_of y) ≡ n * 16 = records_length y in
       let count : length (records_of y) / 16 ≡ n = omega arith in
       simp (ne_eqb (length (records_of y)) 0 (λ e. omega (arith, s.terms_least)), le-ltb 1280 (length (records_of y)) (records_most y s), eq-eqb (length (records_of y) % 16) 0 (omega arith))
-      (ap (λ (k : ℕ). summed (read_to (records_of y) k)) count ∙ ap summed (reads-courses y.courses (omega arith)) ∙ ap done (front_all y s))
+      (ap (λ (k : ℕ). summed (read_to (records_of y) k)) count ∙ ap summed (reads_courses y.courses (omega arith)) ∙ ap done (front_all y s))

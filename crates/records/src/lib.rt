@@ -1,4 +1,5 @@
 // Years as records of 16 bytes: any byte string is read, or refused at its first fault; a sound year is written into a lent buffer.
+#![tactic(auto)]
 mod blocks;
 pub mod bytes;
 pub mod entries;
@@ -12,7 +13,7 @@ ghost use Rattle.records.specs.Writing.{write_answer, written};
 use year::{Course, Term, Year, by_hand, sound};
 
 // What is wrong with a byte string: the paper's refusals 1 to 7.
-#[derive(Drop)]
+#[derive(Clone, Copy)]
 pub enum Fault {
     Length,
     Letter,
@@ -24,33 +25,33 @@ pub enum Fault {
 }
 
 // What a record holds as a term's, and as a course's.
-#[derive(Drop)]
+#[derive(Clone, Copy)]
 pub enum AsTerm {
     Good(Term),
     Faulty(Fault),
 }
 
-#[derive(Drop)]
+#[derive(Clone, Copy)]
 pub enum AsCourse {
     Good(Course),
     Faulty(Fault),
 }
 
 // How a reading ended: done, or refused by the first fault, with its record's place.
-#[derive(Drop)]
+#[derive(Clone, Copy)]
 pub enum Reading {
     Done,
     Refused(Fault, usize),
 }
 
-#[derive(Drop)]
+#[derive(Clone, Copy)]
 pub struct Received {
     pub answer: Reading,
     pub year: Year,
 }
 
 // How a writing ended: done, or refused by 8 or 9.
-#[derive(Drop)]
+#[derive(Clone, Copy)]
 pub enum Writing {
     Done,
     Unsound,

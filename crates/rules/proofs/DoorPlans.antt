@@ -40,27 +40,27 @@ module _ (t : Term) (x : Quantity → ℕ) where
   four : KeepsAll t x → Four t (x Credits) (x Counts)
   four h = record { credits_low = h Low Credits; credits_high = h High Credits; count_low = h Low Counts; count_high = h High Counts }
 
-  all-four : Four t (x Credits) (x Counts) → KeepsAll t x
-  all-four f Low Credits = f.credits_low
-  all-four f High Credits = f.credits_high
-  all-four f Low Counts = f.count_low
-  all-four f High Counts = f.count_high
+  all_four : Four t (x Credits) (x Counts) → KeepsAll t x
+  all_four f Low Credits = f.credits_low
+  all_four f High Credits = f.credits_high
+  all_four f Low Counts = f.count_low
+  all_four f High Counts = f.count_high
 
 -- one bound replaced by the inner of itself and n: kept exactly if all are kept and n is
 module _ (t : Term) (n : ℕ) (x : Quantity → ℕ) where
   moved_to : (s : Side) (q : Quantity) → KeepsAll t x → Keeps s n (x q) → KeepsAll (tightened s q t n).term x
   unfolding tightened
-  moved_to Low Credits h k = let f = four t x h in all-four _ x (omega arith)
-  moved_to High Credits h k = let f = four t x h in all-four _ x (omega arith)
-  moved_to Low Counts h k = let f = four t x h in all-four _ x (omega arith)
-  moved_to High Counts h k = let f = four t x h in all-four _ x (omega arith)
+  moved_to Low Credits h k = let f = four t x h in all_four _ x (omega arith)
+  moved_to High Credits h k = let f = four t x h in all_four _ x (omega arith)
+  moved_to Low Counts h k = let f = four t x h in all_four _ x (omega arith)
+  moved_to High Counts h k = let f = four t x h in all_four _ x (omega arith)
 
-  moved-from : (s : Side) (q : Quantity) → KeepsAll (tightened s q t n).term x → KeepsAll t x × Keeps s n (x q)
+  moved_from : (s : Side) (q : Quantity) → KeepsAll (tightened s q t n).term x → KeepsAll t x × Keeps s n (x q)
   unfolding tightened
-  moved-from Low Credits h = let f = four _ x h in (all-four t x (omega arith), omega arith)
-  moved-from High Credits h = let f = four _ x h in (all-four t x (omega arith), omega arith)
-  moved-from Low Counts h = let f = four _ x h in (all-four t x (omega arith), omega arith)
-  moved-from High Counts h = let f = four _ x h in (all-four t x (omega arith), omega arith)
+  moved_from Low Credits h = let f = four _ x h in (all_four t x (omega arith), omega arith)
+  moved_from High Credits h = let f = four _ x h in (all_four t x (omega arith), omega arith)
+  moved_from Low Counts h = let f = four _ x h in (all_four t x (omega arith), omega arith)
+  moved_from High Counts h = let f = four _ x h in (all_four t x (omega arith), omega arith)
 
 -- what p puts into term k
 abbrev loads : Year → Placing → ℕ → Quantity → ℕ
@@ -74,18 +74,18 @@ module _ (y : Year) (j : ℕ) (t : Term) (p : Placing) (s : Sound y) (l : j < y.
   same : term_at (with_term y j t) j ≡ t
   same = term_same y j t (omega (arith, s))
 
-  term-to : Plan y p → KeepsAll t (loads y p j) → Plan (with_term y j t) p
-  term-to h new = plan_of (with_term y j t) p h.within h.listed (λ k m. go k m (ℕ_discrete k j))
+  term_to : Plan y p → KeepsAll t (loads y p j) → Plan (with_term y j t) p
+  term_to h new = plan_of (with_term y j t) p h.within h.listed (λ k m. go k m (ℕ_discrete k j))
     where
       go : (k : ℕ) → k < y.terms → Dec (k ≡ j) → KeepsAll (term_at (with_term y j t) k) (loads y p k)
       go k m (yes e) = rw (e, same) new
       go k m (no ne) = rw (term_other y j t k ne) (λ r q. h.bounds r q k m)
 
-  term-at : Plan (with_term y j t) p → KeepsAll t (loads y p j)
-  term-at h = subst (λ (u : Term). KeepsAll u (loads y p j)) same (λ r q. h.bounds r q j l)
+  term_at_lem : Plan (with_term y j t) p → KeepsAll t (loads y p j)
+  term_at_lem h = subst (λ (u : Term). KeepsAll u (loads y p j)) same (λ r q. h.bounds r q j l)
 
-  term-from : Plan (with_term y j t) p → KeepsAll (term_at y j) (loads y p j) → Plan y p
-  term-from h old = plan_of y p h.within h.listed (λ k m. go k m (ℕ_discrete k j))
+  term_from : Plan (with_term y j t) p → KeepsAll (term_at y j) (loads y p j) → Plan y p
+  term_from h old = plan_of y p h.within h.listed (λ k m. go k m (ℕ_discrete k j))
     where
       go : (k : ℕ) → k < y.terms → Dec (k ≡ j) → KeepsAll (term_at y k) (loads y p k)
       go k m (yes e) = rw e old
@@ -96,28 +96,28 @@ pub moved_plans : (y : Year) (s : Side) (q : Quantity) (j n : ℕ) (p : Placing)
     → Plan (with_term y j (tightened s q (term_at y j) n).term) p ↔ (Plan y p × Keeps s n (put_in q y p j))
 moved_plans y s q j n p sound l =
     let t : Term = (tightened s q (term_at y j) n).term in (
-      λ h. let g = moved-from (term_at y j) n (loads y p j) s q (term-at y j t p sound l h) in (term-from y j t p sound l h g.0, g.1),
-      λ h. term-to y j t p sound l h.0 (moved_to (term_at y j) n (loads y p j) s q (λ r u. h.0.bounds r u j l) h.1),
+      λ h. let g = moved_from (term_at y j) n (loads y p j) s q (term_at_lem y j t p sound l h) in (term_from y j t p sound l h g.0, g.1),
+      λ h. term_to y j t p sound l h.0 (moved_to (term_at y j) n (loads y p j) s q (λ r u. h.0.bounds r u j l) h.1),
     )
 
 -- ---- the list of a course
 
 module _ (y : Year) (i l : ℕ) (p : Placing) (s : Sound y) (m : i < y.courses) where
-  same-course : lists (course_at (with_list y i l) i) (p i) ≡ has l (p i)
-  same-course = ap (λ x. has x (p i)) (list_same y i l (omega (arith, s)))
+  same_course : lists (course_at (with_list y i l) i) (p i) ≡ has l (p i)
+  same_course = ap (λ x. has x (p i)) (list_same y i l (omega (arith, s)))
 
-  list-to : Plan y p → has l (p i) ≡ true → Plan (with_list y i l) p
-  list-to h new = plan_of (with_list y i l) p h.within (λ a n. go a n (ℕ_discrete a i)) (λ k n r q. h.bounds r q k n)
+  list_to : Plan y p → has l (p i) ≡ true → Plan (with_list y i l) p
+  list_to h new = plan_of (with_list y i l) p h.within (λ a n. go a n (ℕ_discrete a i)) (λ k n r q. h.bounds r q k n)
     where
       go : (a : ℕ) → a < y.courses → Dec (a ≡ i) → lists (course_at (with_list y i l) a) (p a) ≡ true
-      go a n (yes e) = rw e (same-course ∙ new)
+      go a n (yes e) = rw e (same_course ∙ new)
       go a n (no ne) = rw (list_other y i l a ne) (h.listed a n)
 
   list_at : Plan (with_list y i l) p → has l (p i) ≡ true
-  list_at h = sym same-course ∙ h.listed i m
+  list_at h = sym same_course ∙ h.listed i m
 
-  list-from : Plan (with_list y i l) p → lists (course_at y i) (p i) ≡ true → Plan y p
-  list-from h old = plan_of y p h.within (λ a n. go a n (ℕ_discrete a i)) (λ k n r q. h.bounds r q k n)
+  list_from : Plan (with_list y i l) p → lists (course_at y i) (p i) ≡ true → Plan y p
+  list_from h old = plan_of y p h.within (λ a n. go a n (ℕ_discrete a i)) (λ k n r q. h.bounds r q k n)
     where
       go : (a : ℕ) → a < y.courses → Dec (a ≡ i) → lists (course_at y a) (p a) ≡ true
       go a n (yes e) = rw e old
@@ -125,21 +125,21 @@ module _ (y : Year) (i l : ℕ) (p : Placing) (s : Sound y) (m : i < y.courses) 
 
 module _ (y : Year) (i j : ℕ) (p : Placing) (s : Sound y) (m : i < y.courses) (e : lists (course_at y i) j ≡ true) where
   -- the plans of a year with a course in one term of its list are those that put it there
-  pub placed-plans : Plan (placed y i j) p ↔ (Plan y p × (p i ≡ j))
-  placed-plans = (
+  pub placed_plans : Plan (placed y i j) p ↔ (Plan y p × (p i ≡ j))
+  placed_plans = (
     λ h.
         let q : p i ≡ j = eqb-true (p i) j (sym (has_power j (p i)) ∙ list_at y i (2 ^ j) p s m h) in
-        (list-from y i (2 ^ j) p s m h (rw q e), q),
-    λ h. list-to y i (2 ^ j) p s m h.0 (has_power j (p i) ∙ eq-eqb (p i) j h.1),
+        (list_from y i (2 ^ j) p s m h (rw q e), q),
+    λ h. list_to y i (2 ^ j) p s m h.0 (has_power j (p i) ∙ eq-eqb (p i) j h.1),
   )
 
   -- the plans of a year with a term struck from a list are those that put the course elsewhere
-  pub struck-plans : Plan (struck y i j) p ↔ (Plan y p × (p i ≡ j → ⊥))
-  struck-plans = (
+  pub struck_plans : Plan (struck y i j) p ↔ (Plan y p × (p i ≡ j → ⊥))
+  struck_plans = (
     λ h.
         let q = and_true (has (list y i) (p i)) (not (eqb (p i) j)) (sym (has_struck (list y i) j (p i) e) ∙ list_at y i (list y i - 2 ^ j) p s m h) in
-        (list-from y i (list y i - 2 ^ j) p s m h q.0, λ r. true≢false (sym q.1 ∙ ap not (eq-eqb (p i) j r))),
+        (list_from y i (list y i - 2 ^ j) p s m h q.0, λ r. true≢false (sym q.1 ∙ ap not (eq-eqb (p i) j r))),
     λ h.
-        list-to y i (list y i - 2 ^ j) p s m h.0
+        list_to y i (list y i - 2 ^ j) p s m h.0
         (has_struck (list y i) j (p i) e ∙ and_of (has (list y i) (p i)) (not (eqb (p i) j)) (h.0.listed i m) (ap not (ne_eqb (p i) j h.1))),
   )

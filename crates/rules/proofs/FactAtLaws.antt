@@ -19,8 +19,8 @@ not_true true e = absurd (true≢false (sym e))
 not_true false e = refl
 
 module _ (y : Year) (b : Basis) where
-  pub pair-right : (i k : ℕ) → i < y.courses → k < y.terms → Right y b (pair_at y b i k)
-  pair-right i k h l =
+  pub pair_right : (i k : ℕ) → i < y.courses → k < y.terms → Right y b (pair_at y b i k)
+  pair_right i k h l =
       choose_case (Right y b) (b.fixed k && is_fixed (course_at y i) k) (just (inside i k)) (choose (b.unlisted k && not (lists (course_at y i) k)) (just (outside i k)) nothing)
       (λ e. let a = and_true (b.fixed k) (is_fixed (course_at y i) k) e in (a.0, (h, l, a.1)))
       (λ e.
@@ -28,15 +28,15 @@ module _ (y : Year) (b : Basis) where
       (λ f. let a = and_true (b.unlisted k) (not (lists (course_at y i) k)) f in (a.0, (h, l, not_true (lists (course_at y i) k) a.1)))
       (λ f. tt))
 
-  pub bound-right : (k : ℕ) (s : Side) (q : Quantity) → k < y.terms → Right y b (bound_at y b k s q)
-  bound-right k s q l = choose_case (Right y b) (b.bounds s q k) (just (keeps s q k (bound s q y k))) nothing (λ e. (e, (l, refl))) (λ e. tt)
+  pub bound_right : (k : ℕ) (s : Side) (q : Quantity) → k < y.terms → Right y b (bound_at y b k s q)
+  bound_right k s q l = choose_case (Right y b) (b.bounds s q k) (just (keeps s q k (bound s q y k))) nothing (λ e. (e, (l, refl))) (λ e. tt)
 
   -- and every fact of the basis is found at its place
   inside_found : (i k : ℕ) → Rests y b (inside i k) → pair_at y b i k ≡ just (inside i k)
   inside_found i k h = rw (and_of (b.fixed k) (is_fixed (course_at y i) k) h.0 h.1.2) refl
 
-  outside-found : (i k : ℕ) → Rests y b (outside i k) → pair_at y b i k ≡ just (outside i k)
-  outside-found i k h = rw (free (is_fixed (course_at y i) k) refl, h.0, h.1.2) (none (b.fixed k))
+  outside_found : (i k : ℕ) → Rests y b (outside i k) → pair_at y b i k ≡ just (outside i k)
+  outside_found i k h = rw (free (is_fixed (course_at y i) k) refl, h.0, h.1.2) (none (b.fixed k))
     where
       free : (f : Bool) → is_fixed (course_at y i) k ≡ f → is_fixed (course_at y i) k ≡ false
       free true e = absurd (true≢false (sym (fixed_listed (course_at y i) k e) ∙ h.1.2))
@@ -46,10 +46,10 @@ module _ (y : Year) (b : Basis) where
       none true = refl
       none false = refl
 
-  bound-found : (k : ℕ) (s : Side) (q : Quantity) (n : ℕ) → Rests y b (keeps s q k n) → bound_at y b k s q ≡ just (keeps s q k n)
-  bound-found k s q n h = rw h.0 (ap (λ (m : ℕ). just (keeps s q k m)) h.1.1)
+  bound_found : (k : ℕ) (s : Side) (q : Quantity) (n : ℕ) → Rests y b (keeps s q k n) → bound_at y b k s q ≡ just (keeps s q k n)
+  bound_found k s q n h = rw h.0 (ap (λ (m : ℕ). just (keeps s q k m)) h.1.1)
 
   pub all_found : (f : Fact) → Rests y b f → found_at y b f ≡ just f
   all_found (inside i k) h = inside_found i k h
-  all_found (outside i k) h = outside-found i k h
-  all_found (keeps s q k n) h = bound-found k s q n h
+  all_found (outside i k) h = outside_found i k h
+  all_found (keeps s q k n) h = bound_found k s q n h

@@ -4,7 +4,7 @@ use mathlib.Core.Bool.{Bool, true, false, ◌||◌, not, true≢false}
 use mathlib.Core.Path.{◌≡◌, refl, sym, ap, subst, ◌∙◌}
 use native.Mathlib.Omega.{arith}
 use borrow.Author.Tests.{eq-eqb, ne_eqb, ltb-true}
-use Rattle.theory.proofs.Open.{Ins, Fix, ins-of, fix-of}
+use Rattle.theory.proofs.Open.{Ins, Fix, ins_of, fix_of}
 use Rattle.year.specs.Year.{course_at, lists}
 use Rattle.year.specs.Bound.{bound, opposite, beyond, Keeps}
 use Rattle.year.specs.Plans.{Placing, put_in, Plan}
@@ -44,16 +44,16 @@ or_right : (a b : Bool) → b ≡ true → a || b ≡ true
 or_right true b e = refl
 or_right false b e = e
 
-module _ {y : Year} {p : Placing} (a b : Basis) (m : MeetsAll y p (a with b)) where
-  pub met-left : MeetsAll y p a
-  met-left (inside i k) h = m (inside i k) (or_left (a.fixed k) (b.fixed k) h.0, h.1)
-  met-left (outside i k) h = m (outside i k) (or_left (a.unlisted k) (b.unlisted k) h.0, h.1)
-  met-left (keeps s q k n) h = m (keeps s q k n) (or_left (a.bounds s q k) (b.bounds s q k) h.0, h.1)
+module _ (y : Year) (p : Placing) (a b : Basis) (m : MeetsAll y p (a with b)) where
+  pub met_left : MeetsAll y p a
+  met_left (inside i k) h = m (inside i k) (or_left (a.fixed k) (b.fixed k) h.0, h.1)
+  met_left (outside i k) h = m (outside i k) (or_left (a.unlisted k) (b.unlisted k) h.0, h.1)
+  met_left (keeps s q k n) h = m (keeps s q k n) (or_left (a.bounds s q k) (b.bounds s q k) h.0, h.1)
 
-  pub met-right : MeetsAll y p b
-  met-right (inside i k) h = m (inside i k) (or_right (a.fixed k) (b.fixed k) h.0, h.1)
-  met-right (outside i k) h = m (outside i k) (or_right (a.unlisted k) (b.unlisted k) h.0, h.1)
-  met-right (keeps s q k n) h = m (keeps s q k n) (or_right (a.bounds s q k) (b.bounds s q k) h.0, h.1)
+  pub met_right : MeetsAll y p b
+  met_right (inside i k) h = m (inside i k) (or_right (a.fixed k) (b.fixed k) h.0, h.1)
+  met_right (outside i k) h = m (outside i k) (or_right (a.unlisted k) (b.unlisted k) h.0, h.1)
+  met_right (keeps s q k n) h = m (keeps s q k n) (or_right (a.bounds s q k) (b.bounds s q k) h.0, h.1)
 
 -- ---- a placing that meets a basis
 
@@ -65,34 +65,34 @@ besides_is j k d = ap not (ne_eqb k j d)
 
 module _ (y : Year) (p : Placing) (t : ℕ → Bool) (k : ℕ) (e : t k ≡ true) where
   -- what is fixed in k is there
-  pub met-fixed : k < y.terms → MeetsAll y p (the_fixed t) → Fix y.courses (fixed_at y) p k
-  met-fixed l m i h f = m (inside i k) (e, (h, l, f))
+  pub met_fixed : k < y.terms → MeetsAll y p (the_fixed t) → Fix y.courses (fixed_at y) p k
+  met_fixed l m i h f = m (inside i k) (e, (h, l, f))
 
   -- what is in k lists it
-  pub met-unlisted : Into y p → MeetsAll y p (the_unlisted t) → Ins y.courses (lists_at y) p k
-  met-unlisted into m i h r = go (lists (course_at y i) k) refl
+  pub met_unlisted : Into y p → MeetsAll y p (the_unlisted t) → Ins y.courses (lists_at y) p k
+  met_unlisted into m i h r = go (lists (course_at y i) k) refl
     where
       go : (b : Bool) → lists (course_at y i) k ≡ b → b ≡ true
       go true f = refl
       go false f = absurd (m (outside i k) (e, (h, omega (arith, into i h), f)) r)
 
   -- the bound is kept
-  pub met-bound : (s : Side) (q : Quantity) → k < y.terms → MeetsAll y p (the_bound s q t) → Keeps s (bound s q y k) (put_in q y p k)
-  met-bound Low Credits l m = m (keeps Low Credits k (bound Low Credits y k)) (e, (l, refl))
-  met-bound Low Counts l m = m (keeps Low Counts k (bound Low Counts y k)) (e, (l, refl))
-  met-bound High Credits l m = m (keeps High Credits k (bound High Credits y k)) (e, (l, refl))
-  met-bound High Counts l m = m (keeps High Counts k (bound High Counts y k)) (e, (l, refl))
+  pub met_bound : (s : Side) (q : Quantity) → k < y.terms → MeetsAll y p (the_bound s q t) → Keeps s (bound s q y k) (put_in q y p k)
+  met_bound Low Credits l m = m (keeps Low Credits k (bound Low Credits y k)) (e, (l, refl))
+  met_bound Low Counts l m = m (keeps Low Counts k (bound Low Counts y k)) (e, (l, refl))
+  met_bound High Credits l m = m (keeps High Credits k (bound High Credits y k)) (e, (l, refl))
+  met_bound High Counts l m = m (keeps High Counts k (bound High Counts y k)) (e, (l, refl))
 
 -- with every unlisted pair each course is in a term that it lists, and where it is fixed
 module _ (y : Year) (p : Placing) (into : Into y p) (m : MeetsAll y p (the_unlisted every)) where
   listed : (i : ℕ) → i < y.courses → lists (course_at y i) (p i) ≡ true
-  listed i h = met-unlisted y p every (p i) refl into m i h refl
+  listed i h = met_unlisted y p every (p i) refl into m i h refl
 
-  pub met-ins : (k : ℕ) → Ins y.courses (lists_at y) p k
-  met-ins = ins-of y.courses (lists_at y) p listed
+  pub met_ins : (k : ℕ) → Ins y.courses (lists_at y) p k
+  met_ins = ins_of y.courses (lists_at y) p listed
 
-  pub met-fix : (k : ℕ) → Fix y.courses (fixed_at y) p k
-  met-fix = fix-of y.courses (lists_at y) p listed (fixed_at y) (alone y)
+  pub met_fix : (k : ℕ) → Fix y.courses (fixed_at y) p k
+  met_fix = fix_of y.courses (lists_at y) p listed (fixed_at y) (alone y)
 
 -- ---- a crossing
 
@@ -106,4 +106,4 @@ pub crossing_suffices : (y : Year) (b : Basis) (s : Side) (q : Quantity) (j n : 
     → beyond s n (bound (opposite s) q y j) ≡ true → Suffice y (with_crossed (crosses s q j) b) (crosses s q j)
 crossing_suffices y b s q j n l h c p into m =
     let o : Basis = the_bound (opposite s) q (own j) in
-    refuted s n (bound (opposite s) q y j) (put_in q y p j) c (h p into (met-left b o m)) (met-bound y p (own j) j (own_is j) (opposite s) q l (met-right b o m))
+    refuted s n (bound (opposite s) q y j) (put_in q y p j) c (h p into (met_left y p b o m)) (met_bound y p (own j) j (own_is j) (opposite s) q l (met_right y p b o m))

@@ -87,10 +87,10 @@ module _ (y : Year) (p : Placing) (b : Basis) (h : meets_all y p b ≡ true) whe
       go Low Counts f = f.2
       go High Counts f = f.3
 
-  meets-all : MeetsAll y p b
-  meets-all (inside i k) r = at_place y p b (inside i k) r (at_pair i k r.1.0 r.1.1)
-  meets-all (outside i k) r = at_place y p b (outside i k) r (at_pair i k r.1.0 r.1.1)
-  meets-all (keeps s q k n) r = at_place y p b (keeps s q k n) r (at_bound s q k r.1.0)
+  meets_all_lem : MeetsAll y p b
+  meets_all_lem (inside i k) r = at_place y p b (inside i k) r (at_pair i k r.1.0 r.1.1)
+  meets_all_lem (outside i k) r = at_place y p b (outside i k) r (at_pair i k r.1.0 r.1.1)
+  meets_all_lem (keeps s q k n) r = at_place y p b (keeps s q k n) r (at_bound s q k r.1.0)
 
 -- ---- a placing that meets the facts and not the conclusion
 
@@ -101,7 +101,7 @@ Refuted y b c = Suffice y b c → ⊥
 refuted : (y : Year) (b : Basis) (c : Change) (row : List ℕ) → all y.courses (λ i. ltb (placing_of row i) y.terms) ≡ true → meets_all y (placing_of row) b ≡ true
     → (Concludes y (placing_of row) c → ⊥) → Refuted y b c
 refuted y b c row into met wrong h =
-    wrong (h (placing_of row) (λ i l. ltb-true (placing_of row i) y.terms (all_at y.courses (λ i. ltb (placing_of row i) y.terms) into i l)) (meets-all y (placing_of row) b met))
+    wrong (h (placing_of row) (λ i l. ltb-true (placing_of row i) y.terms (all_at y.courses (λ i. ltb (placing_of row i) y.terms) into i l)) (meets_all_lem y (placing_of row) b met))
 
 -- both courses into term 1: its high count of 1 does not follow from who is fixed there
 lowering_by_the_fixed : Refuted slack (the_fixed (own 1)) (moves High Counts 1 1)

@@ -6,7 +6,7 @@ use native.Mathlib.Nat.{le_refl, le_of_eq}
 use lib.Dec.{eqb}
 use borrow.Author.Tests.{eqb-true}
 use Rattle.theory.proofs.ChoiceLaws.{choose_case}
-use Rattle.theory.proofs.FoldLaws.{fold-keeps}
+use Rattle.theory.proofs.FoldLaws.{fold_keeps}
 use Rattle.year.specs.Plans.{Placing, Plan}
 use Rattle.year.specs.Sound.{Sound}
 use Rattle.year.specs.declared.Year.{Year}
@@ -40,9 +40,9 @@ kept_next f y s k a b =
 -- what each step keeps, on years that meet a condition which it leaves true, is kept by all
 module _ (f : Year → ℕ → Step) (If : Year → Type 0) (n : ℕ) (kept : (z : Year) (k : ℕ) → If z → k < n → PlansKept z (f z k))
     (stays : (z : Year) (k : ℕ) → If z → k < n → If (f z k).year) (y : Year) (s : Step) where
-  pub kept-over : PlansKept y s → If s.year → (m : ℕ) → m ≤ n → PlansKept y (over_to f s m) × If (over_to f s m).year
-  kept-over a i m h =
-      fold-keeps goes (then f) s (λ z. PlansKept y z × If z.year) m
+  pub kept_over : PlansKept y s → If s.year → (m : ℕ) → m ≤ n → PlansKept y (over_to f s m) × If (over_to f s m).year
+  kept_over a i m h =
+      fold_keeps goes (then f) s (λ z. PlansKept y z × If z.year) m
       (λ z k l e b. (kept_then y z (f z.year k) (eqb-true z.rule 0 e) b.0 (kept z.year k b.1 (omega arith)), stays z.year k b.1 (omega arith)))
       (a, i)
 
@@ -55,7 +55,7 @@ AtTerms P f = (z : Year) (j : ℕ) → Sound z → j < z.terms → P z (f z j)
 -- a rule that keeps the plans at each term, and narrows, keeps them over all terms
 pub kept_terms : (f : Year → ℕ → Step) → AtTerms PlansKept f → AtTerms Narrows f → (y : Year) (s : Step) → Sound s.year → PlansKept y s → PlansKept y (over_terms f s)
 kept_terms f kept narrows y s sound a =
-    (kept-over f (Narrower s.year) s.year.terms (λ z k i l. kept z k i.sound (omega (arith, i.terms_same)))
+    (kept_over f (Narrower s.year) s.year.terms (λ z k i l. kept z k i.sound (omega (arith, i.terms_same)))
     (λ z k i l. narrower_then s.year z (f z k).year i (narrows z k i.sound (omega (arith, i.terms_same))).year)
     y s a (narrower_self s.year sound) s.year.terms (le_refl s.year.terms)).0
 

@@ -9,7 +9,7 @@ use lib.Dec.{eqb}
 use borrow.Author.Tests.{eqb-true, eq-eqb, ne_eqb}
 use Rattle.theory.specs.Choice.{choose}
 use Rattle.theory.proofs.ChoiceLaws.{choose_case}
-use Rattle.theory.proofs.FoldLaws.{fold-keeps}
+use Rattle.theory.proofs.FoldLaws.{fold_keeps}
 use Rattle.theory.specs.Sum.{pick}
 use Rattle.theory.proofs.SumLaws.{sum_cong, sum_term_le}
 use Rattle.theory.specs.Bits.{has}
@@ -32,7 +32,7 @@ use Rattle.rules.proofs.PlanSums.{open_facts, count_halves}
 use Rattle.rules.proofs.Narrows.{narrows_rest, narrows_then}
 use Rattle.rules.proofs.PlansKept.{Held}
 use Rattle.rules.proofs.KeptOver.{kept_rest, kept_then, AtTerms}
-use Rattle.rules.proofs.ReasonsGood.{good3, good10, good10-course, good12, good12-course}
+use Rattle.rules.proofs.ReasonsGood.{good3, good10, good10_course, good12, good12_course}
 use Rattle.rules.proofs.ReasonsKept.{good_held}
 
 -- ---- a verdict is a change under any rule
@@ -48,9 +48,9 @@ judged_is r y i j Fixed = refl
 module _ (y : Year) (f : Year → ℕ → Step) (If : Year → Type 0)
     (step : (z : Year) (i : ℕ) → Sound z → z.terms ≡ y.terms → z.courses ≡ y.courses → If z → i < y.courses → Held z (f z i) × If (f z i).year) where
   -- so it is before course n
-  over-to : Sound y → If y → (n : ℕ) → n ≤ y.courses → Held y (over_to f (live y) n) × If (over_to f (live y) n).year
-  over-to s a n m =
-      fold-keeps goes (then f) (live y) (λ t. Held y t × If t.year) n
+  over_to_lem : Sound y → If y → (n : ℕ) → n ≤ y.courses → Held y (over_to f (live y) n) × If (over_to f (live y) n).year
+  over_to_lem s a n m =
+      fold_keeps goes (then f) (live y) (λ t. Held y t × If t.year) n
       (λ t i l e b.
       let w = b.0.0.year in
       let h = step t.year i w.sound w.terms_same w.courses_same b.1 (omega arith) in (
@@ -59,15 +59,15 @@ module _ (y : Year) (f : Year → ℕ → Step) (If : Year → Type 0)
       ))
       ((narrows_rest y 0 s, kept_rest y), a)
 
-  over-held : Sound y → If y → Held y (over_courses f (live y))
-  over-held s a = (over-to s a y.courses (le_refl y.courses)).0
+  over_held : Sound y → If y → Held y (over_courses f (live y))
+  over_held s a = (over_to_lem s a y.courses (le_refl y.courses)).0
 
 -- ---- rule 3
 
 pub rule3_held : AtTerms Held rule3
 unfolding rule3 rule3_course
 rule3_held y j s l =
-    over-held y (rule3_course j) (λ z. Unit {0})
+    over_held y (rule3_course j) (λ z. Unit {0})
     (λ z i a t c u h. (
       subst (Held z) (sym (judged_is 3 z i j (verdict_at3 z j i)))
           (good_held 3 z a (λ e. omega arith) (reason3 z j i) (good3 z j (omega arith) i (omega arith))),
@@ -84,9 +84,9 @@ Asked false false j z = (full z j ≡ false) × (needed z j ≡ false)
 
 module _ (z : Year) (i j : ℕ) (s : Sound z) (l : i < z.courses) (o : is_open (course_at z i) j ≡ true) where
   -- a course struck from j was not fixed there and is not
-  fixed-struck : fixed_count (struck z i j) j ≡ fixed_count z j
+  fixed_struck : fixed_count (struck z i j) j ≡ fixed_count z j
   unfolding fixed_count
-  fixed-struck =
+  fixed_struck =
       sum_cong z.courses (λ a. pick (is_fixed (course_at (struck z i j) a) j) 1) (λ a. pick (is_fixed (course_at z a) j) 1)
       (λ a h. ap (λ b. pick b 1) (go a (ℕ_discrete a i)))
     where
@@ -106,8 +106,8 @@ module _ (z : Year) (i j : ℕ) (s : Sound z) (l : i < z.courses) (o : is_open (
       go a (no d) = ap (λ x. eqb x (2 ^ j)) (list_other z i (list z i - 2 ^ j) a d)
 
   -- a course placed in j lists it as before
-  both-placed : fixed_count (placed z i j) j + open_count (placed z i j) j ≡ fixed_count z j + open_count z j
-  both-placed =
+  both_placed : fixed_count (placed z i j) j + open_count (placed z i j) j ≡ fixed_count z j + open_count z j
+  both_placed =
       sym (count_halves (placed z i j) j)
       ∙ sum_cong z.courses (λ a. pick (lists (course_at (placed z i j) a) j) 1) (λ a. pick (lists (course_at z a) j) 1)
       (λ a h. ap (λ b. pick b 1) (go a (ℕ_discrete a i)))
@@ -136,21 +136,21 @@ module _ (z : Year) (i j : ℕ) (s : Sound z) (l : i < z.courses) (m : j < z.ter
           rw (ne_eqb (fixed_count z j) (high_count z j) (λ e. omega arith), eq-eqb (fixed_count z j + open_count z j) (low_count z j) a) refl
       go true o false false a = rw (a.0, a.1) refl
 
-  asked-stays : (f n : Bool) → Asked f n j z → Asked f n j (judged z i j (verdict10 f n (course_at z i) j)).year
+  asked_stays : (f n : Bool) → Asked f n j z → Asked f n j (judged z i j (verdict10 f n (course_at z i) j)).year
   unfolding verdict10
-  asked-stays f n a = choose_case (λ v. Asked f n j (judged z i j v).year) (is_open (course_at z i) j) (choose f Struck (choose n Fixed Stays)) Stays (λ o. go f n a o) (λ o. a)
+  asked_stays f n a = choose_case (λ v. Asked f n j (judged z i j v).year) (is_open (course_at z i) j) (choose f Struck (choose n Fixed Stays)) Stays (λ o. go f n a o) (λ o. a)
     where
       go : (f n : Bool) → Asked f n j z → is_open (course_at z i) j ≡ true → Asked f n j (judged z i j (choose f Struck (choose n Fixed Stays))).year
-      go true n a o = fixed-struck z i j s l o ∙ a
-      go false true a o = both-placed z i j s l o ∙ a
+      go true n a o = fixed_struck z i j s l o ∙ a
+      go false true a o = both_placed z i j s l o ∙ a
       go false false a o = a
 
   course10 : (f n : Bool) → Asked f n j z → Held z (rule10_course f n j z i) × Asked f n j (rule10_course f n j z i).year
   unfolding rule10_course
   course10 f n a = (
     subst (Held z) (sym (ap (judged z i j) (read_again f n a) ∙ judged_is 10 z i j (verdict10 (full z j) (needed z j) (course_at z i) j)))
-        (good_held 10 z s (λ e. omega arith) (reason10_course z j i) (good10-course z j m i l)),
-    asked-stays f n a,
+        (good_held 10 z s (λ e. omega arith) (reason10_course z j i) (good10_course z j m i l)),
+    asked_stays f n a,
   )
 
 asked_first : (y : Year) (j : ℕ) (f n : Bool) → full y j ≡ f → needed y j ≡ n → Asked f n j y
@@ -173,7 +173,7 @@ over_10 : (y : Year) (j : ℕ) → Sound y → j < y.terms → (n : ℕ) → n �
     → let t = over_to (rule10_course (full y j) (needed y j) j) (live y) n in
     Held y t × Asked (full y j) (needed y j) j t.year
 over_10 y j s l =
-    over-to y (rule10_course (full y j) (needed y j) j) (Asked (full y j) (needed y j) j)
+    over_to_lem y (rule10_course (full y j) (needed y j) j) (Asked (full y j) (needed y j) j)
     (λ z i a t c u h. course10 z i j a (omega arith) (omega arith) (full y j) (needed y j) u)
     s (asked_first y j (full y j) (needed y j) refl refl)
 
@@ -206,9 +206,9 @@ unfolding rule12 rule12_course
 rule12_held y j s l =
     choose_case (Held y) (cannot_be y j) (dead 12 y) (over_courses (rule12_course j) (live y)) (none_12 y j s l)
     (λ e.
-    over-held y (rule12_course j) (λ z. Unit {0})
+    over_held y (rule12_course j) (λ z. Unit {0})
     (λ z i a t c u h. (
       subst (Held z) (sym (judged_is 12 z i j (verdict12 z j i)))
-          (good_held 12 z a (λ e. omega arith) (reason12_course z j i) (good12-course z j a (omega arith) i (omega arith))),
+          (good_held 12 z a (λ e. omega arith) (reason12_course z j i) (good12_course z j a (omega arith) i (omega arith))),
       tt,
     )) s tt)

@@ -10,7 +10,7 @@ use lib.Dec.{eqb}
 use Rattle.theory.specs.Choice.{choose}
 use Rattle.theory.specs.Tests.{any}
 use Rattle.theory.proofs.ChoiceLaws.{choose_case}
-use Rattle.theory.proofs.FoldLaws.{fold-keeps}
+use Rattle.theory.proofs.FoldLaws.{fold_keeps}
 use Rattle.year.specs.Year.{course_at}
 use Rattle.year.specs.declared.Quantity.TheVariants.{Credits, Counts}
 use Rattle.year.specs.declared.Side.{Side}
@@ -56,7 +56,7 @@ both_by r f y j =
     choose_by r (goes s && goes (applied r s.year (f High s.year j))) _ (dead r y) (applied_by r s.year (f High s.year j)) (inr refl)
 
 over_by : (r : ℕ) (f : Year → ℕ → Step) → ((y : Year) (k : ℕ) → By r (f y k).rule) → (y : Year) (n : ℕ) → By r (over_to f (live y) n).rule
-over_by r f h y n = fold-keeps goes (then f) (live y) (λ (s : Step). By r s.rule) n (λ z k l g b. h z.year k) (inl refl)
+over_by r f h y n = fold_keeps goes (then f) (live y) (λ (s : Step). By r s.rule) n (λ z k l g b. h z.year k) (inl refl)
 
 -- ---- each pass
 

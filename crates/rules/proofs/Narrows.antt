@@ -13,7 +13,7 @@ use borrow.Author.Tests.{ltb-false}
 use Rattle.theory.proofs.ChoiceLaws.{choose_case}
 use Rattle.theory.specs.Sum.{pick, sum}
 use Rattle.theory.proofs.TestLaws.{or_false}
-use Rattle.theory.proofs.FoldLaws.{fold-keeps}
+use Rattle.theory.proofs.FoldLaws.{fold_keeps}
 use Rattle.theory.specs.Order.{heavier, lighter, order}
 use Rattle.year.specs.Bound.{bound, Keeps, beyond}
 use Rattle.year.specs.Sums.{all_credits}
@@ -99,7 +99,7 @@ narrows_next f y s k a b = choose_case (Narrows y) (eqb s.rule 0) _ s (λ e. nar
 
 pub narrows_over : (f : Year → ℕ → Step) (n : ℕ) (y : Year) (s : Step) → Lawful y.terms y.courses f n → Narrows y s → (m : ℕ) → m ≤ n → Narrows y (over_to f s m)
 narrows_over f n y s law a m h =
-    fold-keeps goes (then f) s (Narrows y) m
+    fold_keeps goes (then f) s (Narrows y) m
     (λ z k l e b. narrows_then y z (f z.year k) b (law z.year k b.year.sound b.year.terms_same b.year.courses_same (omega arith)))
     a
 

@@ -25,14 +25,14 @@ use Rattle.rules.specs.Packing.{burst, room, shares, rounded_up, bursts}
 use Rattle.rules.specs.Facts.{Into, MeetsAll, Suffice, every, the_fixed, the_bound}
 use Rattle.rules.specs.Reasons.{basis11}
 use Rattle.rules.proofs.Reading.{fixed_at}
-use Rattle.rules.proofs.FactLaws.{met-left, met-right, met-fixed, met-bound}
+use Rattle.rules.proofs.FactLaws.{met_left, met_right, met_fixed, met_bound}
 
 module _ (y : Year) (s : Sound y) (p : Placing) (into : Into y p) (m : MeetsAll y p basis11) where
   fixed : (k : ℕ) → k < y.terms → Fix y.courses (fixed_at y) p k
-  fixed k l = met-fixed y p every k refl l (met-left (the_fixed every) (the_bound High Credits every) m)
+  fixed k l = met_fixed y p every k refl l (met_left y p (the_fixed every) (the_bound High Credits every) m)
 
   highs : (k : ℕ) → k < y.terms → credits_in y p k ≤ high_credits y k
-  highs k l = met-bound y p every k refl High Credits l (met-right (the_fixed every) (the_bound High Credits every) m)
+  highs k l = met_bound y p every k refl High Credits l (met_right y p (the_fixed every) (the_bound High Credits every) m)
 
   -- the courses with several terms that p puts into k, beside what is fixed there
   several : (k : ℕ) → k < y.terms → load y.courses (λ i. pick (not (placed_at y i)) (weight y i)) p k + fixed_credits y k ≤ credits_in y p k
@@ -55,16 +55,16 @@ module _ (y : Year) (s : Sound y) (p : Placing) (into : Into y p) (m : MeetsAll 
       point false false true x a b = omega arith
       point false false false x a b = omega arith
 
-  shares-fit : (t : ℕ) → t + t ≤ room y → shares y (room y) t ≤ y.terms * room y
+  shares_fit : (t : ℕ) → t + t ≤ room y → shares y (room y) t ≤ y.terms * room y
   unfolding shares
-  shares-fit t half =
+  shares_fit t half =
       rule_11 (room y) t half y.courses y.terms (weight y) p (λ k. room y - (high_credits y k - fixed_credits y k)) (λ i. not (placed_at y i)) into
       (λ k l. omega (arith, several k l, highs k l, largest_above y.terms (high_credits y) k l))
 
 module _ (y : Year) (s : Sound y) where
   -- p exceeds high credits for some term
-  pub burst-11 : any y.terms (burst y) ≡ true → Suffice y basis11 fails
-  burst-11 e p into m =
+  pub burst_11 : any y.terms (burst y) ≡ true → Suffice y basis11 fails
+  burst_11 e p into m =
       let r = any_true y.terms (burst y) e in
       omega (
         arith,
@@ -74,10 +74,10 @@ module _ (y : Year) (s : Sound y) where
       )
 
   -- for some t the sum divided by c, rounded up, exceeds the number of terms
-  pub sizes-11 : (room y ≡ 0 → ⊥) → any (room y / 2 + 1) (bursts y (room y)) ≡ true → Suffice y basis11 fails
-  sizes-11 d e p into m =
+  pub sizes_11 : (room y ≡ 0 → ⊥) → any (room y / 2 + 1) (bursts y (room y)) ≡ true → Suffice y basis11 fails
+  sizes_11 d e p into m =
       let r = any_true (room y / 2 + 1) (bursts y (room y)) e in
       let t : ℕ = r.0 in
       let over : y.terms < rounded_up (shares y (room y) t) (room y) = ltb-true y.terms (rounded_up (shares y (room y) t) (room y)) r.2 in
       let less : t < room y / 2 + 1 = r.1 in
-      omega (arith, (ceiling (room y) y.terms (shares y (room y) t) (omega (arith, d))).0 over, shares-fit y s p into m t (omega arith))
+      omega (arith, (ceiling (room y) y.terms (shares y (room y) t) (omega (arith, d))).0 over, shares_fit y s p into m t (omega arith))

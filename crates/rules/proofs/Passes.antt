@@ -9,7 +9,7 @@ use lib.Dec.{eqb}
 use lib.ListN.{take, drop}
 use borrow.Author.Tests.{eqb-true}
 use Rattle.theory.proofs.ChoiceLaws.{choose_case}
-use Rattle.theory.proofs.FoldLaws.{fold_none, fold-told}
+use Rattle.theory.proofs.FoldLaws.{fold_none, fold_told}
 use Rattle.year.specs.Sound.{Sound}
 use Rattle.year.specs.declared.Year.{Year}
 use Rattle.rules.specs.Step.{goes, then, step, live, over_to, over_terms, Step, joined}
@@ -50,7 +50,7 @@ or_more false b c = refl
 pub over_joined : (f : Year → ℕ → Step) (s : Step) → s.rule ≡ 0 → (n : ℕ) → over_to f s n ≡ joined s (over_to f (live s.year) n)
 over_joined f s e n =
     sym
-    (fold-told goes (then f) goes (then f) (joined s) (λ z. Unit {0}) n (λ z. refl) (λ z k l g u. tt)
+    (fold_told goes (then f) goes (then f) (joined s) (λ z. Unit {0}) n (λ z. refl) (λ z k l g u. tt)
     (λ z k l g u i. step (f z.year k).year (or_more s.altered z.altered (f z.year k).altered i) (f z.year k).rule)
     (live s.year) tt n (le_refl n)
     ∙ ap (λ t. over_to f t n) (λ i. step s.year (or_none s.altered i) (sym e i)))
@@ -101,11 +101,11 @@ lawful =
 -- ---- one pass more
 
 module _ (p : Step → Step) (law : Pass p) (s : Step) where
-  pub pass-last : eqb s.rule 0 ≡ false → p s ≡ s
-  pass-last e = law.steps s ∙ next_dead (λ y k. p (live y)) s 0 e
+  pub pass_last : eqb s.rule 0 ≡ false → p s ≡ s
+  pass_last e = law.steps s ∙ next_dead (λ y k. p (live y)) s 0 e
 
-  pub pass-narrows : (y : Year) → Narrows y s → Narrows y (p s)
-  pass-narrows y a = subst (Narrows y) (sym (law.steps s)) (narrows_next (λ z k. p (live z)) y s 0 a (law.narrows s.year a.year.sound))
+  pub pass_narrows : (y : Year) → Narrows y s → Narrows y (p s)
+  pass_narrows y a = subst (Narrows y) (sym (law.steps s)) (narrows_next (λ z k. p (live z)) y s 0 a (law.narrows s.year a.year.sound))
 
   pub pass_kept : (y : Year) → Sound s.year → PlansKept y s → PlansKept y (p s)
   pass_kept y a b = subst (PlansKept y) (sym (law.steps s)) (kept_next (λ z k. p (live z)) y s 0 b (λ e. law.kept s.year a))
@@ -136,14 +136,14 @@ each_drop P (suc k) (p ∷ ps) a = each_drop P k ps a.1
 
 module _ (ps : List (Step → Step)) (laws : Each Pass ps) (s : Step) where
   pub row_last : eqb s.rule 0 ≡ false → in_row ps s ≡ s
-  row_last e = row_keeps (λ t. t ≡ s) (λ p l t q. ap p q ∙ pass-last p l s e) ps laws s refl
+  row_last e = row_keeps (λ t. t ≡ s) (λ p l t q. ap p q ∙ pass_last p l s e) ps laws s refl
 
-  pub row-narrows : (y : Year) → Narrows y s → Narrows y (in_row ps s)
-  row-narrows y = row_keeps (Narrows y) (λ p l t. pass-narrows p l t y) ps laws s
+  pub row_narrows : (y : Year) → Narrows y s → Narrows y (in_row ps s)
+  row_narrows y = row_keeps (Narrows y) (λ p l t. pass_narrows p l t y) ps laws s
 
   pub row_kept : (y : Year) → Narrows y s → PlansKept y s → PlansKept y (in_row ps s)
   row_kept y a b =
-      (row_keeps (λ t. Narrows y t × PlansKept y t) (λ p l t c. (pass-narrows p l t y c.0, pass_kept p l t y c.0.year.sound c.1)) ps laws s (a, b)).1
+      (row_keeps (λ t. Narrows y t × PlansKept y t) (λ p l t c. (pass_narrows p l t y c.0, pass_kept p l t y c.0.year.sound c.1)) ps laws s (a, b)).1
 
 -- the year gets no wider
 pub row_narrower : (ps : List (Step → Step)) → Each Pass ps → (y : Year) (s : Step) → Narrower y s.year → Narrower y (in_row ps s).year
@@ -167,7 +167,7 @@ lawful_from a = each_drop Pass (a - 1) passes lawful
 
 pub narrows_round : (y : Year) → Sound y → Narrows y (round y)
 unfolding round
-narrows_round y s = row-narrows passes lawful (live y) y (narrows_rest y 0 s)
+narrows_round y s = row_narrows passes lawful (live y) y (narrows_rest y 0 s)
 
 pub round_kept : (y : Year) → Sound y → PlansKept y (round y)
 unfolding round
@@ -189,5 +189,5 @@ pass_quiet p law s a = go (eqb s.rule 0) refl
         let year = ap (λ (t : Step). t.year) is in
         ((p (live s.year)).altered, ap (λ (t : Step). t.altered) is, (λ z. year ∙ q.0 z, λ z. q.1 (sym year ∙ z)))
     go false e =
-        let is = pass-last p law s e in
+        let is = pass_last p law s e in
         (false, ap (λ (t : Step). t.altered) is ∙ sym (or_none s.altered), (λ z. ap (λ (t : Step). t.year) is, λ z. refl))

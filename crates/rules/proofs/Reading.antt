@@ -6,7 +6,7 @@ use lib.Dec.{eqb}
 use borrow.Author.Tests.{eqb-true}
 use Rattle.theory.specs.Bits.{has}
 use Rattle.theory.proofs.BitLaws.{has_power}
-use Rattle.theory.proofs.Open.{Alone, Ins, Fix, ins-of, fix-of}
+use Rattle.theory.proofs.Open.{Alone, Ins, Fix, ins_of, fix_of}
 use Rattle.year.specs.Year.{course_at, lists, is_fixed}
 use Rattle.year.specs.Plans.{Placing, Plan}
 use Rattle.year.specs.declared.Course.{Course}
@@ -30,7 +30,7 @@ pub alone : (y : Year) → Alone y.courses (lists_at y) (fixed_at y)
 alone y i k l h a b = eqb-true l k (sym (fixed_lists (course_at y i) k l a) ∙ b)
 
 pub ins : (y : Year) (p : Placing) → Plan y p → (k : ℕ) → Ins y.courses (lists_at y) p k
-ins y p h = ins-of y.courses (lists_at y) p h.listed
+ins y p h = ins_of y.courses (lists_at y) p h.listed
 
 pub fix : (y : Year) (p : Placing) → Plan y p → (k : ℕ) → Fix y.courses (fixed_at y) p k
-fix y p h = fix-of y.courses (lists_at y) p h.listed (fixed_at y) (alone y)
+fix y p h = fix_of y.courses (lists_at y) p h.listed (fixed_at y) (alone y)

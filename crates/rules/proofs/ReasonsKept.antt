@@ -23,7 +23,7 @@ use Rattle.rules.proofs.Narrows.{Narrows, narrows_rest, narrows_then}
 use Rattle.rules.proofs.Steps.{change_narrows}
 use Rattle.rules.proofs.PlansKept.{PlansKept, Held}
 use Rattle.rules.proofs.KeptOver.{kept_rest, kept_dead, kept_then, AtTerms}
-use Rattle.rules.proofs.DoorPlans.{moved_plans, placed-plans, struck-plans}
+use Rattle.rules.proofs.DoorPlans.{moved_plans, placed_plans, struck_plans}
 use Rattle.rules.proofs.FactLaws.{plan_concludes}
 
 -- ---- one change
@@ -39,8 +39,8 @@ kept_when y z C plans all = record {
 change_kept : (r : ℕ) (y : Year) → Sound y → (r ≡ 0 → ⊥) → (c : Change) → Alters y c → ((p : Placing) → Plan y p → Concludes y p c) → PlansKept y (applied r y c)
 change_kept r y s d rests a h = kept_rest y
 change_kept r y s d (moves e q j n) a h = kept_when y _ _ (λ p. moved_plans y e q j n p s a.0) h
-change_kept r y s d (strikes i j) a h = kept_when y _ _ (λ p. struck-plans y i j p s a.0 (open_facts (course_at y i) j a.2).0) h
-change_kept r y s d (fixes i j) a h = kept_when y _ _ (λ p. placed-plans y i j p s a.0 (open_facts (course_at y i) j a.2).0) h
+change_kept r y s d (strikes i j) a h = kept_when y _ _ (λ p. struck_plans y i j p s a.0 (open_facts (course_at y i) j a.2).0) h
+change_kept r y s d (fixes i j) a h = kept_when y _ _ (λ p. placed_plans y i j p s a.0 (open_facts (course_at y i) j a.2).0) h
 change_kept r y s d (crosses e q j) a h = kept_dead y r d h
 change_kept r y s d fails a h = kept_dead y r d h
 
@@ -61,8 +61,8 @@ abbrev pub GoodAt : (Year → ℕ → Reason) → Type 0
 GoodAt f = (y : Year) (j : ℕ) → Sound y → j < y.terms → Good y (f y j)
 
 module _ (r : ℕ) (f : Side → Year → ℕ → Reason) (good : (s : Side) → GoodAt (f s)) (d : r ≡ 0 → ⊥) where
-  pub both-held : AtTerms Held (raise_lower r (λ s y j. (f s y j).change))
-  both-held y j sound l =
+  pub both_held : AtTerms Held (raise_lower r (λ s y j. (f s y j).change))
+  both_held y j sound l =
       let a = good_held r y sound d (f Low y j) (good Low y j sound l) in
       let s : Step = applied r y (f Low y j).change in
       let t : Step = applied r s.year (f High s.year j).change in

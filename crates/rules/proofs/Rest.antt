@@ -22,7 +22,7 @@ use Rattle.rules.specs.Step.{Change, rests, moves, crosses, applied, move, raise
 use Rattle.rules.specs.Round.{passes, in_row, round}
 use Rattle.rules.proofs.Narrows.{Narrows, narrows_rest, narrows_over, next_dead}
 use Rattle.rules.proofs.KeptOver.{AtTerms}
-use Rattle.rules.proofs.Passes.{Pass, Each, lawful, pass-narrows, round_quiet}
+use Rattle.rules.proofs.Passes.{Pass, Each, lawful, pass_narrows, round_quiet}
 
 -- ---- steps that leave the year
 
@@ -65,7 +65,7 @@ Leaves y p = p (live y) ≡ live y
 row_rest : (ps : List (Step → Step)) → Each Pass ps → (y : Year) (s : Step) → Narrows y s → in_row ps s ≡ live y → (s ≡ live y) × Each (Leaves y) ps
 row_rest [] l y s w h = (h, tt)
 row_rest (p ∷ ps) l y s w h =
-    let r = row_rest ps l.1 y (p s) (pass-narrows p l.0 s y w) h in
+    let r = row_rest ps l.1 y (p s) (pass_narrows p l.0 s y w) h in
     let q = next_rest (λ z k. p (live z)) y s 0 w (sym (l.0.steps s) ∙ r.0) in
     (q.0, (q.1, r.1))
 

@@ -17,23 +17,23 @@ use Rattle.rules.specs.Reasons.{reason, reason14, reason25, reason6, reason7, re
 use Rattle.rules.proofs.PlansKept.{Held}
 use Rattle.rules.proofs.KeptOver.{AtTerms}
 use Rattle.rules.proofs.ReasonsGood.{good14, good25, good6, good7, good8, good9, good11}
-use Rattle.rules.proofs.ReasonsKept.{good_held, both-held}
+use Rattle.rules.proofs.ReasonsKept.{good_held, both_held}
 
 pub rule1_held : AtTerms Held rule1
 unfolding rule1
-rule1_held = both-held 1 (reason14 Credits) (λ s y j a l. good14 y j a l Credits s) (λ e. omega arith)
+rule1_held = both_held 1 (reason14 Credits) (λ s y j a l. good14 y j a l Credits s) (λ e. omega arith)
 
 pub rule2_held : AtTerms Held rule2
 unfolding rule2
-rule2_held = both-held 2 (reason25 Credits) (λ s y j a l. good25 y j a l Credits s) (λ e. omega arith)
+rule2_held = both_held 2 (reason25 Credits) (λ s y j a l. good25 y j a l Credits s) (λ e. omega arith)
 
 pub rule4_held : AtTerms Held rule4
 unfolding rule4
-rule4_held = both-held 4 (reason14 Counts) (λ s y j a l. good14 y j a l Counts s) (λ e. omega arith)
+rule4_held = both_held 4 (reason14 Counts) (λ s y j a l. good14 y j a l Counts s) (λ e. omega arith)
 
 pub rule5_held : AtTerms Held rule5
 unfolding rule5
-rule5_held = both-held 5 (reason25 Counts) (λ s y j a l. good25 y j a l Counts s) (λ e. omega arith)
+rule5_held = both_held 5 (reason25 Counts) (λ s y j a l. good25 y j a l Counts s) (λ e. omega arith)
 
 pub rule6_held : AtTerms Held rule6
 rule6_held y j s l = good_held 6 y s (λ e. omega arith) (reason6 y j) (good6 y j s l)

@@ -20,8 +20,8 @@ use Rattle.year.specs.declared.Side.{Side}
 use Rattle.year.specs.declared.Side.TheVariants.{Low, High}
 use Rattle.year.specs.declared.Term.{Term}
 use Rattle.year.specs.declared.Year.{Year}
-use Rattle.year.proofs.BoundLaws.{tight-new}
-use Rattle.year.proofs.DoorLaws.{term_same, term_other, with-term-sound, list_same, list_other, placed_sound, struck_sound}
+use Rattle.year.proofs.BoundLaws.{tight_new}
+use Rattle.year.proofs.DoorLaws.{term_same, term_other, with_term_sound, list_same, list_other, placed_sound, struck_sound}
 use Rattle.rules.specs.Step.{Change, rests, moves, strikes, fixes, crosses, fails, applied, ruled, judged, step}
 use Rattle.rules.specs.Reasons.{Alters}
 use Rattle.rules.specs.declared.Verdict.{Verdict}
@@ -72,9 +72,9 @@ module _ (y : Year) (j : ℕ) (u : Term) (s : Sound y) (h : j < y.terms) (w : Ti
       go (yes e) = rw (e, term_same y j u (omega (arith, s))) new
       go (no ne) = rw (term_other y j u k ne) old
 
-  leeway-falls : leeway (with_term y j u) + 1 ≤ leeway y
+  leeway_falls : leeway (with_term y j u) + 1 ≤ leeway y
   unfolding leeway
-  leeway-falls =
+  leeway_falls =
       let new : slack_at (with_term y j u) j ≡ slack u = ap slack (term_same y j u (omega (arith, s))) in
       omega (
         arith,
@@ -82,34 +82,34 @@ module _ (y : Year) (j : ℕ) (u : Term) (s : Sound y) (h : j < y.terms) (w : Ti
         sum_change y.terms j (slack_at (with_term y j u)) (slack_at y) h (λ k m ne. ap slack (term_other y j u k ne)),
       )
 
-  narrows-term : Narrows y (step (with_term y j u) true 0)
-  narrows-term = record {
+  narrows_term : Narrows y (step (with_term y j u) true 0)
+  narrows_term = record {
     year = record {
-      sound = with-term-sound y j u s h w.sound;
+      sound = with_term_sound y j u s h w.sound;
       terms_same = refl;
       courses_same = refl;
       weight_same = refl;
       bounds = λ r q k. at k (λ t v. Keeps r (bound_of r q t) (bound_of r q v)) (w.bounds r q) (keeps_self r (bound r q y k));
       lists_less = λ i k e. e;
     };
-    falls = leeway-falls;
+    falls = leeway_falls;
     still = λ e. absurd (true≢false e);
   }
 
 pub narrows_moved : (y : Year) (s : Side) (q : Quantity) (j n : ℕ) → Sound y → Alters y (moves s q j n) → Narrows y (applied 0 y (moves s q j n))
 unfolding tightened
 narrows_moved y s q j n sound a =
-    subst (λ u. Narrows y (step (with_term y j u) true 0)) (sym (tight-new s q (term_at y j) n a.1))
-    (narrows-term y j (with_bound s q (term_at y j) n) sound a.0 (bound_tighter s q (term_at y j) n (sound.term_sound j a.0) a.1 a.2))
+    subst (λ u. Narrows y (step (with_term y j u) true 0)) (sym (tight_new s q (term_at y j) n a.1))
+    (narrows_term y j (with_bound s q (term_at y j) n) sound a.0 (bound_tighter s q (term_at y j) n (sound.term_sound j a.0) a.1 a.2))
 
 -- ---- lists
 
 -- course i, open in j, with a list l that names no more terms and leaves fewer choices
 module _ (y : Year) (i l : ℕ) (s : Sound y) (h : i < y.courses) (sound : Sound (with_list y i l))
     (less : (k : ℕ) → has l k ≡ true → lists (course_at y i) k ≡ true) (fewer : choices l + 1 ≤ choices (list y i)) where
-  list-falls : leeway (with_list y i l) + 1 ≤ leeway y
+  list_falls : leeway (with_list y i l) + 1 ≤ leeway y
   unfolding leeway
-  list-falls =
+  list_falls =
       let new : choices_at (with_list y i l) i ≡ choices l = ap choices (list_same y i l (omega (arith, s))) in
       omega (
         arith,
@@ -117,8 +117,8 @@ module _ (y : Year) (i l : ℕ) (s : Sound y) (h : i < y.courses) (sound : Sound
         sum_change y.courses i (choices_at (with_list y i l)) (choices_at y) h (λ k m ne. ap choices (list_other y i l k ne)),
       )
 
-  narrows-list : Narrows y (step (with_list y i l) true 0)
-  narrows-list = record {
+  narrows_list : Narrows y (step (with_list y i l) true 0)
+  narrows_list = record {
     year = record {
       sound = sound;
       terms_same = refl;
@@ -127,7 +127,7 @@ module _ (y : Year) (i l : ℕ) (s : Sound y) (h : i < y.courses) (sound : Sound
       bounds = λ r q k. keeps_self r (bound r q y k);
       lists_less = λ a k e. named a k (ℕ_discrete a i) e;
     };
-    falls = list-falls;
+    falls = list_falls;
     still = λ e. absurd (true≢false e);
   }
     where
@@ -139,8 +139,8 @@ module _ (y : Year) (i j : ℕ) (s : Sound y) (h : i < y.courses) (l : j < y.ter
   is_listed : lists (course_at y i) j ≡ true
   is_listed = (and_true (lists (course_at y i) j) (not (is_fixed (course_at y i) j)) e).0
 
-  not-alone : list y i ≡ 2 ^ j → ⊥
-  not-alone q = true≢false (sym (and_true (lists (course_at y i) j) (not (is_fixed (course_at y i) j)) e).1 ∙ ap not (eq-eqb (list y i) (2 ^ j) q))
+  not_alone : list y i ≡ 2 ^ j → ⊥
+  not_alone q = true≢false (sym (and_true (lists (course_at y i) j) (not (is_fixed (course_at y i) j)) e).1 ∙ ap not (eq-eqb (list y i) (2 ^ j) q))
 
   small : list y i < 2 ^ 16
   small = go (ℕ_discrete y.terms 16)
@@ -149,25 +149,25 @@ module _ (y : Year) (i j : ℕ) (s : Sound y) (h : i < y.courses) (l : j < y.ter
       go (yes q) = rw q at (s.course_sound i h).list_within
       go (no d) = let m : y.terms < 16 = omega (arith, s, d) in omega (arith, power_below y.terms 16 m, (s.course_sound i h).list_within)
 
-  pub narrows-struck : Narrows y (step (struck y i j) true 0)
-  narrows-struck =
-      narrows-list y i (list y i - 2 ^ j) s h (struck_sound y i j s h is_listed not-alone)
+  pub narrows_struck : Narrows y (step (struck y i j) true 0)
+  narrows_struck =
+      narrows_list y i (list y i - 2 ^ j) s h (struck_sound y i j s h is_listed not_alone)
       (λ k q. (and_true (lists (course_at y i) k) (not (eqb k j)) (sym (has_struck (list y i) j k is_listed) ∙ q)).0)
-      (choices_struck (list y i) j (omega (arith, s)) small is_listed not-alone)
+      (choices_struck (list y i) j (omega (arith, s)) small is_listed not_alone)
 
-  pub narrows-placed : Narrows y (step (placed y i j) true 0)
-  narrows-placed =
-      narrows-list y i (2 ^ j) s h (placed_sound y i j s h l)
+  pub narrows_placed : Narrows y (step (placed y i j) true 0)
+  narrows_placed =
+      narrows_list y i (2 ^ j) s h (placed_sound y i j s h l)
       (λ k q. let r : k ≡ j = eqb-true k j (sym (has_power j k) ∙ q) in rw r is_listed)
-      (choices_placed (list y i) j (omega (arith, s)) small is_listed not-alone)
+      (choices_placed (list y i) j (omega (arith, s)) small is_listed not_alone)
 
 -- ---- changes
 
 pub change_narrows : (r : ℕ) (y : Year) → Sound y → (c : Change) → Alters y c → Narrows y (applied r y c)
 change_narrows r y s rests a = narrows_rest y 0 s
 change_narrows r y s (moves d q j n) a = narrows_moved y d q j n s a
-change_narrows r y s (strikes i j) a = narrows-struck y i j s a.0 a.1 a.2
-change_narrows r y s (fixes i j) a = narrows-placed y i j s a.0 a.1 a.2
+change_narrows r y s (strikes i j) a = narrows_struck y i j s a.0 a.1 a.2
+change_narrows r y s (fixes i j) a = narrows_placed y i j s a.0 a.1 a.2
 change_narrows r y s (crosses d q j) a = narrows_rest y r s
 change_narrows r y s fails a = narrows_rest y r s
 

@@ -5,8 +5,8 @@ use mathlib.Core.Path.{◌≡◌, refl}
 use native.Mathlib.Omega.{arith}
 use native.Mathlib.Decide.{ℕ_discrete}
 use Rattle.theory.specs.Sum.{pick, sum}
-use Rattle.theory.proofs.LoadLaws.{load, rule-2-low, rule-2-high}
-use Rattle.theory.proofs.Counting.{sum_ones, at_least, at-least-with, at_most, at-most-without}
+use Rattle.theory.proofs.LoadLaws.{load, rule_2_low, rule_2_high}
+use Rattle.theory.proofs.Counting.{sum_ones, at_least, at_least_with, at_most, at_most_without}
 use Rattle.year.specs.Year.{course_at, lists, is_fixed, is_open}
 use Rattle.year.specs.Bound.{bound}
 use Rattle.year.specs.Sums.{fixed_credits, open_credits, fixed_count, open_count, all_credits, fixed_of, open_of, all_of}
@@ -20,7 +20,7 @@ use Rattle.rules.specs.Bounds.{others_of}
 use Rattle.rules.specs.Facts.{Into, MeetsAll, Suffice, own, besides, the_fixed, the_unlisted, the_bound}
 use Rattle.rules.specs.Reasons.{basis14, basis25, basis_room, basis_need}
 use Rattle.rules.proofs.PlanSums.{halves, open_facts}
-use Rattle.rules.proofs.FactLaws.{met-left, met-right, own_is, besides_is, met-fixed, met-unlisted, met-bound}
+use Rattle.rules.proofs.FactLaws.{met_left, met_right, own_is, besides_is, met_fixed, met_unlisted, met_bound}
 
 -- ---- the sums of a quantity, course by course
 
@@ -46,48 +46,48 @@ module _ (q : Quantity) (y : Year) (j : ℕ) (l : j < y.terms) where
 
   -- ---- rules 1 and 4
 
-  pub raise-14 : Suffice y (basis14 Low j) (moves Low q j (fixed_of q y j))
+  pub raise_14 : Suffice y (basis14 Low j) (moves Low q j (fixed_of q y j))
   unfolding load
-  raise-14 p into m =
-      omega (arith, fixed_is y j q, at_least y.courses p w j (λ i. is_fixed (course_at y i) j) (met-fixed y p (own j) j (own_is j) l m))
+  raise_14 p into m =
+      omega (arith, fixed_is y j q, at_least y.courses p w j (λ i. is_fixed (course_at y i) j) (met_fixed y p (own j) j (own_is j) l m))
 
-  pub lower-14 : Suffice y (basis14 High j) (moves High q j (fixed_of q y j + open_of q y j))
+  pub lower_14 : Suffice y (basis14 High j) (moves High q j (fixed_of q y j + open_of q y j))
   unfolding load
-  lower-14 p into m =
+  lower_14 p into m =
       omega (
         arith,
         fixed_is y j q,
         open_is y j q,
         halves y j w,
-        at_most y.courses p w j (λ i. lists (course_at y i) j) (met-unlisted y p (own j) j (own_is j) into m),
+        at_most y.courses p w j (λ i. lists (course_at y i) j) (met_unlisted y p (own j) j (own_is j) into m),
       )
 
   -- ---- rules 2 and 5
 
-  pub raise-25 : Suffice y (basis25 q Low j) (moves Low q j (all_of q y - others_of High q y j))
+  pub raise_25 : Suffice y (basis25 q Low j) (moves Low q j (all_of q y - others_of High q y j))
   unfolding load
-  raise-25 p into m =
+  raise_25 p into m =
       omega (
         arith,
         all_is y q,
-        rule-2-low y.courses y.terms w p into j (bound High q y) l (λ k h d. met-bound y p (besides j) k (besides_is j k d) High q h m),
+        rule_2_low y.courses y.terms w p into j (bound High q y) l (λ k h d. met_bound y p (besides j) k (besides_is j k d) High q h m),
       )
 
-  sum-25 : (p : Placing) → Into y p → MeetsAll y p (basis25 q High j) → others_of Low q y j + put_in q y p j ≤ all_of q y
+  sum_25 : (p : Placing) → Into y p → MeetsAll y p (basis25 q High j) → others_of Low q y j + put_in q y p j ≤ all_of q y
   unfolding load
-  sum-25 p into m =
+  sum_25 p into m =
       omega (
         arith,
         all_is y q,
-        rule-2-high y.courses y.terms w p into j (bound Low q y) l (λ k h d. met-bound y p (besides j) k (besides_is j k d) Low q h m),
+        rule_2_high y.courses y.terms w p into j (bound Low q y) l (λ k h d. met_bound y p (besides j) k (besides_is j k d) Low q h m),
       )
 
-  pub lower-25 : Suffice y (basis25 q High j) (moves High q j (all_of q y - others_of Low q y j))
-  lower-25 p into m = omega (arith, sum-25 p into m)
+  pub lower_25 : Suffice y (basis25 q High j) (moves High q j (all_of q y - others_of Low q y j))
+  lower_25 p into m = omega (arith, sum_25 p into m)
 
   -- negative is no plan
-  pub negative-25 : all_of q y < others_of Low q y j → Suffice y (basis25 q High j) fails
-  negative-25 c p into m = omega (arith, sum-25 p into m)
+  pub negative_25 : all_of q y < others_of Low q y j → Suffice y (basis25 q High j) fails
+  negative_25 c p into m = omega (arith, sum_25 p into m)
 
   -- ---- rules 3 and 10
 
@@ -96,20 +96,20 @@ module _ (q : Quantity) (y : Year) (j : ℕ) (l : j < y.terms) where
   room p into m =
       let f = the_fixed (own j) in
       let b = the_bound High q (own j) in
-      (met-left f b m, met-bound y p (own j) j (own_is j) High q l (met-right f b m))
+      (met_left y p f b m, met_bound y p (own j) j (own_is j) High q l (met_right y p f b m))
 
   need : (p : Placing) → Into y p → MeetsAll y p (basis_need q j) → MeetsAll y p (basis14 High j) × (bound Low q y j ≤ put_in q y p j)
   need p into m =
       let f = the_unlisted (own j) in
       let b = the_bound Low q (own j) in
-      (met-left f b m, met-bound y p (own j) j (own_is j) Low q l (met-right f b m))
+      (met_left y p f b m, met_bound y p (own j) j (own_is j) Low q l (met_right y p f b m))
 
   -- fixed exceeds the high bound; fixed plus open is below the low bound
   pub overfull_10 : bound High q y j < fixed_of q y j → Suffice y (basis_room q j) fails
-  overfull_10 c p into m = let r = room p into m in omega (arith, raise-14 p into r.0, r.1)
+  overfull_10 c p into m = let r = room p into m in omega (arith, raise_14 p into r.0, r.1)
 
   pub short_10 : fixed_of q y j + open_of q y j < bound Low q y j → Suffice y (basis_need q j) fails
-  short_10 c p into m = let r = need p into m in omega (arith, lower-14 p into r.0, r.1)
+  short_10 c p into m = let r = need p into m in omega (arith, lower_14 p into r.0, r.1)
 
   module _ (i : ℕ) (h : i < y.courses) (o : is_open (course_at y i) j ≡ true) where
     pub strike_3 : bound High q y j < fixed_of q y j + w i → Suffice y (basis_room q j) (strikes i j)
@@ -119,7 +119,7 @@ module _ (q : Quantity) (y : Year) (j : ℕ) (l : j < y.terms) where
         omega (
           arith,
           fixed_is y j q,
-          at-least-with y.courses p w j (λ i. is_fixed (course_at y i) j) (met-fixed y p (own j) j (own_is j) l r.0) i h (open_facts (course_at y i) j o).1 e,
+          at_least_with y.courses p w j (λ i. is_fixed (course_at y i) j) (met_fixed y p (own j) j (own_is j) l r.0) i h (open_facts (course_at y i) j o).1 e,
           r.1,
         )
 
@@ -136,6 +136,6 @@ module _ (q : Quantity) (y : Year) (j : ℕ) (l : j < y.terms) where
               fixed_is y j q,
               open_is y j q,
               halves y j w,
-              at-most-without y.courses p w j (λ i. lists (course_at y i) j) (met-unlisted y p (own j) j (own_is j) into r.0) i h (open_facts (course_at y i) j o).0 d,
+              at_most_without y.courses p w j (λ i. lists (course_at y i) j) (met_unlisted y p (own j) j (own_is j) into r.0) i h (open_facts (course_at y i) j o).0 d,
               r.1,
             ))

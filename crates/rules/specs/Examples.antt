@@ -70,12 +70,12 @@ abbrev pub exceeding : Year → List Bool
 exceeding y = any y.courses (course_tried y (room y)) ∷ any y.terms (term_tried y (room y)) ∷ bursts y (room y) (room y / 2) ∷ []
 
 -- sizes 5, 3, 2, 2 and 0, 0, c = 6: at 2 they count for 13, and terms times c are 12
-abbrev pub at_aSize : Year
-at_aSize = year_of (term_of 6 6 2 2 ∷ term_of 6 6 2 2 ∷ []) (course_of 5 3 ∷ course_of 3 3 ∷ course_of 2 3 ∷ course_of 2 3 ∷ [])
+abbrev pub at_a_size : Year
+at_a_size = year_of (term_of 6 6 2 2 ∷ term_of 6 6 2 2 ∷ []) (course_of 5 3 ∷ course_of 3 3 ∷ course_of 2 3 ∷ course_of 2 3 ∷ [])
 
-at_a_size : exceeding at_aSize ≡ true ∷ false ∷ false ∷ []
+at_a_size_lem : exceeding at_a_size ≡ true ∷ false ∷ false ∷ []
 unfolding computing
-at_a_size = refl
+at_a_size_lem = refl
 
 -- sizes 6, 5, 5, 1 and 1, 0, c = 9: at 0 and 1 they count for 18, which is terms times c; at 4, which is no size, for 19
 abbrev pub at_half : Year
@@ -86,14 +86,14 @@ unfolding computing
 at_half_lem = refl
 
 -- sizes 8, 8, 4, 4, 1 and 3, 0, 0, c = 10: at 3, a term's size, they count for 31, and terms times c are 30
-abbrev pub at_aTerms_size : Year
-at_aTerms_size =
+abbrev pub at_a_terms_size : Year
+at_a_terms_size =
     year_of (term_of 8 10 3 3 ∷ term_of 8 10 1 2 ∷ term_of 8 10 1 2 ∷ [])
     (course_of 3 1 ∷ course_of 8 6 ∷ course_of 8 6 ∷ course_of 4 7 ∷ course_of 4 7 ∷ course_of 1 7 ∷ [])
 
-at_a_terms_size : exceeding at_aTerms_size ≡ false ∷ true ∷ false ∷ []
+at_a_terms_size_lem : exceeding at_a_terms_size ≡ false ∷ true ∷ false ∷ []
 unfolding computing
-at_a_terms_size = refl
+at_a_terms_size_lem = refl
 
 -- sizes 2, 2, 2, 4 and 0, 0, c = 5: at 2 they count for 11 and terms times c are 10; were a size at t to count 0, for 5
 abbrev pub at_its_own_size : Year
@@ -112,7 +112,7 @@ unfolding computing
 above_half_lem = refl
 
 -- what the rule answers by them
-at_sizes : (rule11_at_sizes at_half).rule ∷ (rule11_at_sizes at_aTerms_size).rule ∷ (rule11_at_sizes above_half).rule ∷ [] ≡ 11 ∷ 11 ∷ 0 ∷ []
+at_sizes : (rule11_at_sizes at_half).rule ∷ (rule11_at_sizes at_a_terms_size).rule ∷ (rule11_at_sizes above_half).rule ∷ [] ≡ 11 ∷ 11 ∷ 0 ∷ []
 unfolding computing
 at_sizes = refl
 

@@ -9,7 +9,7 @@ use Rattle.rules.specs.Step.{Change, rests, moves, strikes, fixes, crosses, fail
 use Rattle.rules.specs.Facts.{Fact, inside, outside, keeps}
 use Rattle.rules.specs.FactAt.{stretch_of}
 use Rattle.rules.specs.Reasons.{Reason, reason14, reason25, reason3, reason10, reason10_course, reason6, reason7, reason8, reason9, reason11, reason12, reason12_course}
-use Rattle.rules.specs.Examples.{seven, three, at_aTerms_size, beside, fixed_and_open, both_open}
+use Rattle.rules.specs.Examples.{seven, three, at_a_terms_size, beside, fixed_and_open, both_open}
 use Rattle.rules.specs.Computing.{computing}
 
 -- a reason told: its change, and its facts in order
@@ -158,7 +158,7 @@ packs_11 : told (three 6) (reason11 (three 6)) ≡ fails by keeps High Credits 0
 unfolding computing
 packs_11 = refl
 
-fixed_11 : told at_aTerms_size (reason11 at_aTerms_size)
+fixed_11 : told at_a_terms_size (reason11 at_a_terms_size)
     ≡ fails by inside 0 0 ∷ keeps High Credits 0 10 ∷ keeps High Credits 1 10 ∷ keeps High Credits 2 10 ∷ []
 unfolding computing
 fixed_11 = refl

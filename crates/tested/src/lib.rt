@@ -1,4 +1,5 @@
 // For measuring alone: a filtering as a Rattle program asks for it, its year tested for soundness first, behind a C call.
+#![tactic(auto)]
 ghost use Rattle.std.specs.Prelude.{◌≡◌, ◌+◌, ◌*◌, ◌≤◌, length};
 ghost use Rattle.year.specs.Sound.{Sound};
 ghost use Rattle.filter.specs.Filter.{filter_of};

@@ -62,16 +62,16 @@ module _ (text piece : ℕ → List ℕ) (n : ℕ) (more : (k : ℕ) → k < n �
       omega (arith, grows left (k + 1) (omega arith), ap length (more k (omega arith)), length-append (text k) (piece k))
 
   -- room for the whole text is room up to the next piece
-  room-to : (d : List ℕ) (at k : ℕ) → k < n → at + length (text n) ≤ length d → at + length (text k ++ piece k) ≤ length d
-  room-to d at k l h = omega (arith, grows (n - (k + 1)) (k + 1) (omega arith), ap length (more k l))
+  room_to : (d : List ℕ) (at k : ℕ) → k < n → at + length (text n) ≤ length d → at + length (text k ++ piece k) ≤ length d
+  room_to d at k l h = omega (arith, grows (n - (k + 1)) (k + 1) (omega arith), ap length (more k l))
 
   -- and for that piece
-  pub turn-room : {d d' : List ℕ} {at r : ℕ} (k : ℕ) → k < n → at + length (text n) ≤ length d → Put d at (text k) d' r → r + length (piece k) ≤ length d'
-  turn-room {d} {d'} {at} {r} k l h p = room (piece k) p (room-to d at k l h)
+  pub turn_room : {d d' : List ℕ} {at r : ℕ} (k : ℕ) → k < n → at + length (text n) ≤ length d → Put d at (text k) d' r → r + length (piece k) ≤ length d'
+  turn_room {d} {d'} {at} {r} k l h p = room (piece k) p (room_to d at k l h)
 
   -- one piece more
   pub turn : {d d' d'' : List ℕ} {at r r' : ℕ} (k : ℕ) → k < n → at + length (text n) ≤ length d → Put d at (text k) d' r → Put d' r (piece k) d'' r' → Put d at (text (k + 1)) d'' r'
-  turn {d} {d'} {d''} {at} {r} {r'} k l h p q = rw (more k l) (puts p q (room-to d at k l h))
+  turn {d} {d'} {d''} {at} {r} {r'} k l h p q = rw (more k l) (puts p q (room_to d at k l h))
 
 -- ---- numbers
 

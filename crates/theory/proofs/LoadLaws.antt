@@ -39,15 +39,15 @@ others_mono m j f g h =
     at k q false e = h k q (eqb-false k j e)
 
 module _ (n m : ℕ) (w p : ℕ → ℕ) (within : (i : ℕ) → i < n → p i < m) where
-  pub loads-total : sum m (load n w p) ≡ sum n w
+  pub loads_total : sum m (load n w p) ≡ sum n w
   unfolding load
-  loads-total =
+  loads_total =
       sum_swap m n (λ j i. pick (eqb (p i) j) (w i))
       ∙ sum_cong n (λ i. sum m (λ j. pick (eqb (p i) j) (w i))) w (λ i h. sum_point m (p i) (w i) (within i h))
 
   -- rules 2 and 5: S less the others' high bounds, and S less the others' low bounds
-  pub rule-2-low : (j : ℕ) (high : ℕ → ℕ) → j < m → ((k : ℕ) → k < m → (k ≡ j → ⊥) → load n w p k ≤ high k) → sum n w - others m j high ≤ load n w p j
-  rule-2-low j high h b = omega (arith, loads-total, others_split m j (load n w p) h, others_mono m j (load n w p) high b)
+  pub rule_2_low : (j : ℕ) (high : ℕ → ℕ) → j < m → ((k : ℕ) → k < m → (k ≡ j → ⊥) → load n w p k ≤ high k) → sum n w - others m j high ≤ load n w p j
+  rule_2_low j high h b = omega (arith, loads_total, others_split m j (load n w p) h, others_mono m j (load n w p) high b)
 
-  pub rule-2-high : (j : ℕ) (low : ℕ → ℕ) → j < m → ((k : ℕ) → k < m → (k ≡ j → ⊥) → low k ≤ load n w p k) → others m j low + load n w p j ≤ sum n w
-  rule-2-high j low h b = omega (arith, loads-total, others_split m j (load n w p) h, others_mono m j low (load n w p) b)
+  pub rule_2_high : (j : ℕ) (low : ℕ → ℕ) → j < m → ((k : ℕ) → k < m → (k ≡ j → ⊥) → low k ≤ load n w p k) → others m j low + load n w p j ≤ sum n w
+  rule_2_high j low h b = omega (arith, loads_total, others_split m j (load n w p) h, others_mono m j low (load n w p) b)

@@ -107,8 +107,8 @@ module _ (w : ℕ → ℕ) (c : ℕ → Bool) where
           rw some (with_it (c g) k (omega (arith, m)) l ih)
 
   -- the k heaviest of what is left without the k' lightest are the k heaviest of all
-  heaviest-outside : (k k' : ℕ) (L : List ℕ) → k + k' + 1 ≤ length L → weigh w (heaviest k (outside k' L)) ≡ weigh w (heaviest k L)
-  heaviest-outside k k' L l =
+  heaviest_outside : (k k' : ℕ) (L : List ℕ) → k + k' + 1 ≤ length L → weigh w (heaviest k (outside k' L)) ≡ weigh w (heaviest k L)
+  heaviest_outside k k' L l =
       ap (λ t. weigh w (drop (t - k) (drop k' L))) (length-drop k' L)
       ∙ ap (weigh w) (drop-drop (length L - k' - k) k' L)
       ∙ ap (λ t. weigh w (drop t L)) (let e : k' + (length L - k' - k) ≡ length L - k = omega arith in e)
@@ -144,13 +144,13 @@ module _ (w : ℕ → ℕ) (c : ℕ → Bool) where
             ltb-true x a fit.1,
             weigh_parts (λ g. pick (c g) (w g)) k' set,
             chosen_le c w (lightest k' set),
-            heaviest-outside k k' set (leb-true (k + k' + 1) (length set) fit.0),
+            heaviest_outside k k' set (leb-true (k + k' + 1) (length set) fit.0),
             few k (outside k' set) 0 (up_drop w k' set 0 h) (omega (arith, m)),
           )
 
-  pub no-choice : (set : List ℕ) (a b : ℕ) → Up w 0 set → fires w set a b ≡ true → a ≤ chosen c w set → chosen c w set ≤ b → ⊥
+  pub no_choice : (set : List ℕ) (a b : ℕ) → Up w 0 set → fires w set a b ≡ true → a ≤ chosen c w set → chosen c w set ≤ b → ⊥
   unfolding fires
-  no-choice set a b h e =
+  no_choice set a b h e =
       let k = any_true (length set) (λ k. any (length set) (λ k'. neighbours w set a b k k')) e in
       let k' = any_true (length set) (λ k'. neighbours w set a b k.0 k') k.2 in
       between set a b k.0 k'.0 h k'.2

@@ -81,11 +81,11 @@ Fix n fixed p j = (i : ℕ) → i < n → fixed i j ≡ true → p i ≡ j
 
 -- a placing within the lists does both, at every term
 module _ (n : ℕ) (lists : ℕ → ℕ → Bool) (p : ℕ → ℕ) (listed : (i : ℕ) → i < n → lists i (p i) ≡ true) where
-  pub ins-of : (j : ℕ) → Ins n lists p j
-  ins-of j i h e = subst (λ k. lists i k ≡ true) e (listed i h)
+  pub ins_of : (j : ℕ) → Ins n lists p j
+  ins_of j i h e = subst (λ k. lists i k ≡ true) e (listed i h)
 
-  pub fix-of : (fixed : ℕ → ℕ → Bool) → Alone n lists fixed → (j : ℕ) → Fix n fixed p j
-  fix-of fixed alone j i h a = alone i j (p i) h a (listed i h)
+  pub fix_of : (fixed : ℕ → ℕ → Bool) → Alone n lists fixed → (j : ℕ) → Fix n fixed p j
+  fix_of fixed alone j i h a = alone i j (p i) h a (listed i h)
 
 -- ---- the laws
 
@@ -100,9 +100,9 @@ module _ (n : ℕ) (lists fixed : ℕ → ℕ → Bool) (p : ℕ → ℕ) where
       ∙ sum_add n (λ i. pick (fixed i j) (w i)) (λ i. pick (open_at lists fixed i j) (pick (eqb (p i) j) (w i)))
 
   -- the open courses of k that the plan leaves out of k are at most its spare
-  pub spare-holds : (low : ℕ → ℕ) (k : ℕ) → Ins n lists p k → Fix n fixed p k → low k ≤ load n one p k
+  pub spare_holds : (low : ℕ → ℕ) (k : ℕ) → Ins n lists p k → Fix n fixed p k → low k ≤ load n one p k
       → sum n (λ i. pick (open_at lists fixed i k) (pick (not (eqb (p i) k)) 1)) ≤ spare_of n lists fixed low k
-  spare-holds low k ins fix h =
+  spare_holds low k ins fix h =
       omega (
         arith,
         load_split one k ins fix,
@@ -113,11 +113,11 @@ module _ (n : ℕ) (lists fixed : ℕ → ℕ → Bool) (p : ℕ → ℕ) where
 
   -- L goes through the open courses of j, each once, in some order
   module _ (alone : Alone n lists fixed) (j : ℕ) (L : List ℕ) (same : (f : ℕ → ℕ) → weigh f L ≡ sum n (λ i. pick (open_at lists fixed i j) (f i))) where
-    need-other : (low : ℕ → ℕ) (k : ℕ) → Ins n lists p k → Fix n fixed p k → low k ≤ load n one p k → need (other lists j) p k L ≤ spare_of n lists fixed low k
-    need-other low k ins fix h =
+    need_other : (low : ℕ → ℕ) (k : ℕ) → Ins n lists p k → Fix n fixed p k → low k ≤ load n one p k → need (other lists j) p k L ≤ spare_of n lists fixed low k
+    need_other low k ins fix h =
         omega (
           arith,
-          spare-holds low k ins fix h,
+          spare_holds low k ins fix h,
           same (λ g. pick (other lists j g k && not (eqb (p g) k)) 1),
           sum_mono n (λ i. pick (open_at lists fixed i j) (pick (other lists j i k && not (eqb (p i) k)) 1))
               (λ i. pick (open_at lists fixed i k) (pick (not (eqb (p i) k)) 1))
@@ -125,8 +125,8 @@ module _ (n : ℕ) (lists fixed : ℕ → ℕ → Bool) (p : ℕ → ℕ) where
         )
 
     -- j itself is no other term
-    need-own : need (other lists j) p j L ≡ 0
-    need-own =
+    need_own : need (other lists j) p j L ≡ 0
+    need_own =
         same (λ g. pick (other lists j g j && not (eqb (p g) j)) 1)
         ∙ sum_zero n (λ i. pick (open_at lists fixed i j) (pick (other lists j i j && not (eqb (p i) j)) 1))
         (λ i q. own (open_at lists fixed i j) (lists i j) (eqb j j) (eqb (p i) j) (eq-eqb j j refl))
@@ -138,10 +138,10 @@ module _ (n : ℕ) (lists fixed : ℕ → ℕ → Bool) (p : ℕ → ℕ) where
         own false l q e h = refl
 
     -- what the plan needs of a term is at most its spare; of j nothing is asked
-    pub need-holds : (low : ℕ → ℕ) (k : ℕ) → Ins n lists p k → Fix n fixed p k → ((k ≡ j → ⊥) → low k ≤ load n one p k)
+    pub need_holds : (low : ℕ → ℕ) (k : ℕ) → Ins n lists p k → Fix n fixed p k → ((k ≡ j → ⊥) → low k ≤ load n one p k)
         → need (other lists j) p k L ≤ spare_of n lists fixed low k
-    need-holds low k ins fix h = go (ℕ_discrete k j)
+    need_holds low k ins fix h = go (ℕ_discrete k j)
       where
         go : Dec (k ≡ j) → need (other lists j) p k L ≤ spare_of n lists fixed low k
-        go (yes e) = rw e (omega (arith, need-own))
-        go (no d) = need-other low k ins fix (h d)
+        go (yes e) = rw e (omega (arith, need_own))
+        go (no d) = need_other low k ins fix (h d)

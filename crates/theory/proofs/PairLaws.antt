@@ -63,27 +63,27 @@ module _ (n : ℕ) (f : ℕ → ℕ) where
   gap j k = square (distance (f j) (f k))
 
   -- the law: n times the sum of squares is the square of the sum, and the squared differences of all pairs
-  pub by-pairs : n * squares ≡ square (sum n f) + over_pairs n gap
+  pub by_pairs : n * squares ≡ square (sum n f) + over_pairs n gap
   unfolding sum over_pairs
-  by-pairs = go n
+  by_pairs = go n
     where
       go : (n : ℕ) → n * sum n (λ j. square (f j)) ≡ square (sum n f) + over_pairs n gap
       go zero = omega arith
       go (suc n) = omega (arith, go n, against n f (f n))
 
   -- so nothing is cut off where one is taken from the other, and what is left is the sum over the pairs
-  pub square-least : square (sum n f) ≤ n * squares
-  square-least = omega (arith, by-pairs)
+  pub square_least : square (sum n f) ≤ n * squares
+  square_least = omega (arith, by_pairs)
 
   pub left_over : n * squares - square (sum n f) ≡ over_pairs n gap
-  left_over = omega (arith, by-pairs)
+  left_over = omega (arith, by_pairs)
 
   -- the pairs add nothing exactly if all numbers are equal
   equal_of : over_pairs n gap ≡ 0 → (j k : ℕ) → j < k → k < n → f j ≡ f k
   equal_of e j k q l = same_of (f j) (f k) (omega (arith, pair_le n gap j k q l))
 
-  pub all-equal : (over_pairs n gap ≡ 0) ↔ ((j k : ℕ) → j < n → k < n → f j ≡ f k)
-  all-equal = (λ e j k l m. either e j k l m (dec_lt j k) (dec_lt k j), λ h. pairs_zero n gap (λ j k q l. zero_of (f j) (f k) (h j k (omega arith) l)))
+  pub all_equal : (over_pairs n gap ≡ 0) ↔ ((j k : ℕ) → j < n → k < n → f j ≡ f k)
+  all_equal = (λ e j k l m. either e j k l m (dec_lt j k) (dec_lt k j), λ h. pairs_zero n gap (λ j k q l. zero_of (f j) (f k) (h j k (omega arith) l)))
     where
       either : over_pairs n gap ≡ 0 → (j k : ℕ) → j < n → k < n → Dec (j < k) → Dec (k < j) → f j ≡ f k
       either e j k l m (yes q) d = equal_of e j k q m
@@ -91,8 +91,8 @@ module _ (n : ℕ) (f : ℕ → ℕ) where
       either e j k l m (no q) (no r) = let is : j ≡ k = omega arith in ap f is
 
   -- at most m + 1 numbers whose sum is at most c: most is left where one of them has it all
-  pub left-most : (m c : ℕ) → n ≤ suc m → sum n f ≤ c → n * squares - square (sum n f) ≤ m * square c
-  left-most m c few small =
+  pub left_most : (m c : ℕ) → n ≤ suc m → sum n f ≤ c → n * squares - square (sum n f) ≤ m * square c
+  left_most m c few small =
       let a : n * squares ≤ suc m * square (sum n f) = mul-le-mul few (squares_most n f) in
       let b : m * square (sum n f) ≤ m * square c = mul-le-mul {n₁ = m} {n₂ = m} (omega arith) (mul-le-mul small small) in
       omega arith

@@ -68,10 +68,10 @@ module _ (m j : ℕ) (other : ℕ → ℕ → Bool) (apart : (g k : ℕ) → oth
             sum_mono m (λ k. pick (other g k && eqb (t g) k) 1) (λ k. pick (eqb (t g) k) 1) (λ k q. pick_and_le (other g k) (eqb (t g) k)),
           )
 
-  pub spare-take : (g : ℕ) (L : List ℕ) (s s' : ℕ → ℕ) → ((k : ℕ) → k < m → s k ≡ s' k + pick (other g k) 1)
+  pub spare_take : (g : ℕ) (L : List ℕ) (s s' : ℕ → ℕ) → ((k : ℕ) → k < m → s k ≡ s' k + pick (other g k) 1)
       → over m other t s' L + pick (eqb (t g) j) 1 ≤ over m other t s (g ∷ L) + 1
   unfolding over
-  spare-take g L s s' h =
+  spare_take g L s s' h =
       omega (
         arith,
         once g,
@@ -79,10 +79,10 @@ module _ (m j : ℕ) (other : ℕ → ℕ → Bool) (apart : (g k : ℕ) → oth
             (λ k q. take_point (other g k) (eqb (t g) k) (need other t k L) (s k) (s' k) (h k q)),
       )
 
-  pub spare-skip : (g : ℕ) (L : List ℕ) (s : ℕ → ℕ) (k : ℕ) → k < m → other g k ≡ true → s k ≡ 0
+  pub spare_skip : (g : ℕ) (L : List ℕ) (s : ℕ → ℕ) (k : ℕ) → k < m → other g k ≡ true → s k ≡ 0
       → over m other t s L + pick (eqb (t g) j) 1 ≤ over m other t s (g ∷ L)
   unfolding over
-  spare-skip g L s k l o z = go (ℕ_discrete (t g) j)
+  spare_skip g L s k l o z = go (ℕ_discrete (t g) j)
     where
       mono : (i : ℕ) → i < m → need other t i L - s i ≤ need other t i (g ∷ L) - s i
       mono i q = skip_point (other g i) (eqb (t g) i) (need other t i L) (s i)
@@ -119,39 +119,39 @@ module _ {S : Type 0} (T : Table S) (m j : ℕ) (other : ℕ → ℕ → Bool) (
   abbrev pub Within : List ℕ → List Bool → S → ℕ → Type 0
   Within L ms s d = (ms ≡ marks t j L) × (over m other t (R.look s) L ≤ d)
 
-  within-take : (g : ℕ) (L : List ℕ) (ms : List Bool) (s : S) (d : ℕ) → T.blocked s g ≡ false → Within (g ∷ L) ms s d
+  within_take : (g : ℕ) (L : List ℕ) (ms : List Bool) (s : S) (d : ℕ) → T.blocked s g ≡ false → Within (g ∷ L) ms s d
       → (e : ℕ) × (d + 1 ≡ pick (hd ms) 1 + e) × Within L (tl ms) (T.charge s g) e
-  within-take g L ms s d f h =
+  within_take g L ms s d f h =
       let b : pick (hd ms) 1 ≤ 1 = pick_le (hd ms) 1 in
       let q : pick (hd ms) 1 ≡ pick (eqb (t g) j) 1 = ap (λ z. pick (hd z) 1) h.0 in
-      let o = spare-take m j other R.apart t g L (R.look s) (R.look (T.charge s g)) (R.charged s g f) in
+      let o = spare_take m j other R.apart t g L (R.look s) (R.look (T.charge s g)) (R.charged s g f) in
       (d + 1 - pick (hd ms) 1, omega arith, (ap tl h.0, omega arith))
 
-  within-skip : (g : ℕ) (L : List ℕ) (ms : List Bool) (s : S) (d : ℕ) → T.blocked s g ≡ true → Within (g ∷ L) ms s d
+  within_skip : (g : ℕ) (L : List ℕ) (ms : List Bool) (s : S) (d : ℕ) → T.blocked s g ≡ true → Within (g ∷ L) ms s d
       → (e : ℕ) × (d + 0 ≡ pick (hd ms) 1 + e) × Within L (tl ms) s e
-  within-skip g L ms s d f h =
+  within_skip g L ms s d f h =
       let k = R.blocked_by s g f in
       let q : pick (hd ms) 1 ≡ pick (eqb (t g) j) 1 = ap (λ z. pick (hd z) 1) h.0 in
-      let o = spare-skip m j other R.apart t g L (R.look s) k.0 k.1 k.2 k.3 in
+      let o = spare_skip m j other R.apart t g L (R.look s) k.0 k.1 k.2 k.3 in
       (d - pick (hd ms) 1, omega arith, (ap tl h.0, omega arith))
 
-  unfoldable pub against-plan : Against T
-  unfolding within-take within-skip
-  against-plan = record { Keeps = Within; take = within-take; skip = within-skip }
+  unfoldable pub against_plan : Against T
+  unfolding within_take within_skip
+  against_plan = record { Keeps = Within; take = within_take; skip = within_skip }
 
   -- prefix dominance: of the first r courses of the order, the plan puts no more into j than the walk takes
-  need-prefix : (k r : ℕ) (L : List ℕ) → need other t k (take r L) ≤ need other t k L
-  need-prefix k zero L = omega arith
-  need-prefix k (suc r) [] = omega arith
-  need-prefix k (suc r) (g ∷ L) = omega (arith, need-prefix k r L)
+  need_prefix : (k r : ℕ) (L : List ℕ) → need other t k (take r L) ≤ need other t k L
+  need_prefix k zero L = omega arith
+  need_prefix k (suc r) [] = omega arith
+  need_prefix k (suc r) (g ∷ L) = omega (arith, need_prefix k r L)
 
-  pub prefix-dominance : (w : ℕ → ℕ) (L : List ℕ) (s : S) → ((k : ℕ) → k < m → need other t k L ≤ R.look s k)
+  pub prefix_dominance : (w : ℕ → ℕ) (L : List ℕ) (s : S) → ((k : ℕ) → k < m → need other t k L ≤ R.look s k)
       → (r : ℕ) → weigh (λ g. pick (eqb (t g) j) 1) (take r L) ≤ (walk T w (λ c n x. false) (take r L) s 0 0).count
-  unfolding over against-plan
-  prefix-dominance w L s h r =
+  unfolding over against_plan
+  prefix_dominance w L s h r =
       omega (
         arith,
         dot_marks one t j (take r L),
-        dominates T against-plan w (take r L) (marks t j (take r L)) s
-            (refl, le_of_eq (sum_zero m (λ k. need other t k (take r L) - R.look s k) (λ k l. omega (arith, h k l, need-prefix k r L)))),
+        dominates T against_plan w (take r L) (marks t j (take r L)) s
+            (refl, le_of_eq (sum_zero m (λ k. need other t k (take r L) - R.look s k) (λ k l. omega (arith, h k l, need_prefix k r L)))),
       )

@@ -64,14 +64,14 @@ fill_all f l d n e = fill_front f l d n n e (omega arith) (λ k h b. absurd (ome
 
 -- an array of n equal entries, filled below k
 module _ {A : Type 0} (z : A) (n : ℕ) (f : ℕ → A) (s : List A) (k : ℕ) (e : s ≡ fill f (replicate n z) k) where
-  pub filling-long : length s ≡ n
-  filling-long = ap length e ∙ length_fill f (replicate n z) k ∙ length-replicate n z
+  pub filling_long : length s ≡ n
+  filling_long = ap length e ∙ length_fill f (replicate n z) k ∙ length-replicate n z
 
-  pub filling-more : (x : A) → x ≡ f k → set s k x ≡ fill f (replicate n z) (k + 1)
-  filling-more x q = ap₂ (λ r v. set r k v) e q ∙ sym (fill_more f (replicate n z) k)
+  pub filling_more : (x : A) → x ≡ f k → set s k x ≡ fill f (replicate n z) (k + 1)
+  filling_more x q = ap₂ (λ r v. set r k v) e q ∙ sym (fill_more f (replicate n z) k)
 
-  pub filling-ends : k ≡ n → s ≡ tab n f
-  filling-ends is = e ∙ ap (fill f (replicate n z)) is ∙ fill_all f (replicate n z) z n (length-replicate n z)
+  pub filling_ends : k ≡ n → s ≡ tab n f
+  filling_ends is = e ∙ ap (fill f (replicate n z)) is ∙ fill_all f (replicate n z) z n (length-replicate n z)
 
 -- a list of n entries is the list of its entries
 pub tab_get_or : {A : Type 0} (l : List A) (d : A) (n : ℕ) → length l ≡ n → tab n (λ k. get_or l k d) ≡ l

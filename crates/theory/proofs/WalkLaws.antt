@@ -20,10 +20,10 @@ module _ {S : Type 0} (T : Table S) (w : ℕ → ℕ) (stop : ℕ → ℕ → �
     (take : (g : ℕ) (L : List ℕ) (s : S) (c n : ℕ) → stop c n (w g) ≡ false → T.blocked s g ≡ false → P (g ∷ L) s c n → P L (T.charge s g) (c + w g) (suc n))
     (end : (s : S) (c n : ℕ) → P [] s c n → Q (record { credits = c; count = n }))
     (halt : (g : ℕ) (L : List ℕ) (s : S) (c n : ℕ) → stop c n (w g) ≡ true → P (g ∷ L) s c n → Q (record { credits = c; count = n })) where
-  pub walk-ind : (L : List ℕ) (s : S) (c n : ℕ) → P L s c n → Q (walk T w stop L s c n)
+  pub walk_ind : (L : List ℕ) (s : S) (c n : ℕ) → P L s c n → Q (walk T w stop L s c n)
   unfolding walk
-  walk-ind [] s c n p = end s c n p
-  walk-ind (g ∷ L) s c n p = go (λ s' c' n' q. walk-ind L s' c' n' q) (stop c n (w g)) (T.blocked s g) refl refl
+  walk_ind [] s c n p = end s c n p
+  walk_ind (g ∷ L) s c n p = go (λ s' c' n' q. walk_ind L s' c' n' q) (stop c n (w g)) (T.blocked s g) refl refl
     where
       go : ((s' : S) (c' n' : ℕ) → P L s' c' n' → Q (walk T w stop L s' c' n')) → (x y : Bool) → stop c n (w g) ≡ x → T.blocked s g ≡ y
           → Q (elim x [
@@ -63,7 +63,7 @@ pub record Against {S : Type 0} (T : Table S) : Type 1 where
 pub dominates : {S : Type 0} (T : Table S) (A : Against T) (w : ℕ → ℕ) (L : List ℕ) (ms : List Bool) (s : S) → A.Keeps L ms s 0
     → dot one L ms ≤ (walk T w (λ c n x. false) L s 0 0).count
 dominates {S} T A w L ms s h =
-    walk-ind T w (λ c n x. false) Ahead (λ r. dot one L ms ≤ r.count)
+    walk_ind T w (λ c n x. false) Ahead (λ r. dot one L ms ≤ r.count)
     (λ g L s c n e f p. let r = A.skip g L p.0 s p.1 f p.2 in (tl p.0, r.0, r.2, omega (arith, p.3, r.1)))
     (λ g L s c n e f p. let r = A.take g L p.0 s p.1 f p.2 in (tl p.0, r.0, r.2, omega (arith, p.3, r.1)))
     (λ s c n p. omega (arith, p.3))
@@ -124,8 +124,8 @@ module _ {S : Type 0} (T : Table S) (A : Against T) (w : ℕ → ℕ) (N C : ℕ
     pub order : Down w U L
     pub loads : C + d * U ≤ c + dot w L ms
 
-  fall-take : (g : ℕ) (L : List ℕ) (s : S) (c n : ℕ) → T.blocked s g ≡ false → Falling (g ∷ L) s c n → Falling L (T.charge s g) (c + w g) (suc n)
-  fall-take g L s c n f h =
+  fall_take : (g : ℕ) (L : List ℕ) (s : S) (c n : ℕ) → T.blocked s g ≡ false → Falling (g ∷ L) s c n → Falling L (T.charge s g) (c + w g) (suc n)
+  fall_take g L s c n f h =
       let r = A.take g L h.ms s h.d f h.keeps in
       record {
         ms = tl h.ms;
@@ -137,8 +137,8 @@ module _ {S : Type 0} (T : Table S) (A : Against T) (w : ℕ → ℕ) (N C : ℕ
         loads = down_step (hd h.ms) true C c (dot w L (tl h.ms)) h.d r.0 h.U (w g) h.order.0 r.1 h.loads;
       }
 
-  fall-skip : (g : ℕ) (L : List ℕ) (s : S) (c n : ℕ) → T.blocked s g ≡ true → Falling (g ∷ L) s c n → Falling L s c n
-  fall-skip g L s c n f h =
+  fall_skip : (g : ℕ) (L : List ℕ) (s : S) (c n : ℕ) → T.blocked s g ≡ true → Falling (g ∷ L) s c n → Falling L s c n
+  fall_skip g L s c n f h =
       let r = A.skip g L h.ms s h.d f h.keeps in
       record {
         ms = tl h.ms;
@@ -151,8 +151,8 @@ module _ {S : Type 0} (T : Table S) (A : Against T) (w : ℕ → ℕ) (N C : ℕ
       }
 
   -- a walk that counts no fewer than N has no fewer credits than C
-  fall-enough : (L : List ℕ) (s : S) (c n : ℕ) → Falling L s c n → N ≤ n → C ≤ c
-  fall-enough L s c n h l =
+  fall_enough : (L : List ℕ) (s : S) (c n : ℕ) → Falling L s c n → N ≤ n → C ≤ c
+  fall_enough L s c n h l =
       let k : dot one L h.ms ≤ h.d = omega (arith, h.counts) in
       omega (arith, h.loads, down_bound w L h.ms h.U h.order, mul-le-mul_right h.U k)
 
@@ -165,8 +165,8 @@ module _ {S : Type 0} (T : Table S) (A : Against T) (w : ℕ → ℕ) (N C : ℕ
     pub order : Up w U L
     pub loads : c + dot w L ms ≤ C + d * U
 
-  rise-take : (g : ℕ) (L : List ℕ) (s : S) (c n : ℕ) → T.blocked s g ≡ false → Rising (g ∷ L) s c n → Rising L (T.charge s g) (c + w g) (suc n)
-  rise-take g L s c n f h =
+  rise_take : (g : ℕ) (L : List ℕ) (s : S) (c n : ℕ) → T.blocked s g ≡ false → Rising (g ∷ L) s c n → Rising L (T.charge s g) (c + w g) (suc n)
+  rise_take g L s c n f h =
       let r = A.take g L h.ms s h.d f h.keeps in
       record {
         ms = tl h.ms;
@@ -178,8 +178,8 @@ module _ {S : Type 0} (T : Table S) (A : Against T) (w : ℕ → ℕ) (N C : ℕ
         loads = up_step (hd h.ms) true C c (dot w L (tl h.ms)) h.d r.0 h.U (w g) h.order.0 r.1 h.loads;
       }
 
-  rise-skip : (g : ℕ) (L : List ℕ) (s : S) (c n : ℕ) → T.blocked s g ≡ true → Rising (g ∷ L) s c n → Rising L s c n
-  rise-skip g L s c n f h =
+  rise_skip : (g : ℕ) (L : List ℕ) (s : S) (c n : ℕ) → T.blocked s g ≡ true → Rising (g ∷ L) s c n → Rising L s c n
+  rise_skip g L s c n f h =
       let r = A.skip g L h.ms s h.d f h.keeps in
       record {
         ms = tl h.ms;
@@ -192,13 +192,13 @@ module _ {S : Type 0} (T : Table S) (A : Against T) (w : ℕ → ℕ) (N C : ℕ
       }
 
   -- a walk that counts no more than N has no more credits than C; one that counts fewer has room for the next course
-  rise-enough : (L : List ℕ) (s : S) (c n : ℕ) → Rising L s c n → n ≤ N → c ≤ C
-  rise-enough L s c n h l =
+  rise_enough : (L : List ℕ) (s : S) (c n : ℕ) → Rising L s c n → n ≤ N → c ≤ C
+  rise_enough L s c n h l =
       let k : h.d ≤ dot one L h.ms = omega (arith, h.counts) in
       omega (arith, h.loads, up_bound w L h.ms h.U h.order, mul-le-mul_right h.U k)
 
-  rise-more : (g : ℕ) (L : List ℕ) (s : S) (c n : ℕ) → Rising (g ∷ L) s c n → n < N → c + w g ≤ C
-  rise-more g L s c n h l =
+  rise_more : (g : ℕ) (L : List ℕ) (s : S) (c n : ℕ) → Rising (g ∷ L) s c n → n < N → c + w g ≤ C
+  rise_more g L s c n h l =
       let k : h.d + 1 ≤ dot one (g ∷ L) h.ms = omega (arith, h.counts) in
       omega (arith, h.loads, up_bound w (g ∷ L) h.ms (w g) (le_refl (w g), h.order.1), mul-le-mul_right (w g) k, mul-le-mul_left h.d h.order.0)
 
@@ -207,21 +207,21 @@ module _ {S : Type 0} (T : Table S) (A : Against T) (w : ℕ → ℕ) (N C : ℕ
   -- rule 9: at most `top` courses. The walk has no fewer credits
   pub rule_9 : (top : ℕ) (L : List ℕ) (s : S) (c n : ℕ) → N ≤ top → Falling L s c n → C ≤ (walk T w (λ c n x. leb top n) L s c n).credits
   rule_9 top L s c n l h =
-      walk-ind T w (λ c n x. leb top n) Falling (λ r. C ≤ r.credits)
-      (λ g L s c n e f p. fall-skip g L s c n f p)
-      (λ g L s c n e f p. fall-take g L s c n f p)
-      (λ s c n p. fall-enough [] s c n p (omega (arith, p.counts)))
-      (λ g L s c n e p. fall-enough (g ∷ L) s c n p (omega (arith, leb-true top n e)))
+      walk_ind T w (λ c n x. leb top n) Falling (λ r. C ≤ r.credits)
+      (λ g L s c n e f p. fall_skip g L s c n f p)
+      (λ g L s c n e f p. fall_take g L s c n f p)
+      (λ s c n p. fall_enough [] s c n p (omega (arith, p.counts)))
+      (λ g L s c n e p. fall_enough (g ∷ L) s c n p (omega (arith, leb-true top n e)))
       L s c n h
 
   -- rule 6: at least `low` credits. The walk reaches them, and counts no more
   pub rule_6 : (low : ℕ) (L : List ℕ) (s : S) (c n : ℕ) → low ≤ C → n ≤ N → Falling L s c n
       → let r = walk T w (λ c n x. leb low c) L s c n in (r.count ≤ N) × (low ≤ r.credits)
   rule_6 low L s c n l b h =
-      walk-ind T w (λ c n x. leb low c) (λ L s c n. Falling L s c n × (n ≤ N)) (λ r. (r.count ≤ N) × (low ≤ r.credits))
-      (λ g L s c n e f p. (fall-skip g L s c n f p.0, p.1))
-      (λ g L s c n e f p. (fall-take g L s c n f p.0, more g L s c n (leb-false low c e) p.0))
-      (λ s c n p. (p.1, omega (arith, fall-enough [] s c n p.0 (omega (arith, p.0.counts)))))
+      walk_ind T w (λ c n x. leb low c) (λ L s c n. Falling L s c n × (n ≤ N)) (λ r. (r.count ≤ N) × (low ≤ r.credits))
+      (λ g L s c n e f p. (fall_skip g L s c n f p.0, p.1))
+      (λ g L s c n e f p. (fall_take g L s c n f p.0, more g L s c n (leb-false low c e) p.0))
+      (λ s c n p. (p.1, omega (arith, fall_enough [] s c n p.0 (omega (arith, p.0.counts)))))
       (λ g L s c n e p. (p.1, leb-true low c e))
       L s c n (h, b)
     where
@@ -230,25 +230,25 @@ module _ {S : Type 0} (T : Table S) (A : Against T) (w : ℕ → ℕ) (N C : ℕ
         where
           go : Dec (n < N) → suc n ≤ N
           go (yes q) = q
-          go (no q) = omega (arith, fall-enough (g ∷ L) s c n p (omega arith))
+          go (no q) = omega (arith, fall_enough (g ∷ L) s c n p (omega arith))
 
   -- rule 8: at least `low` courses. The walk reaches them, and has no more credits
   pub rule_8 : (low : ℕ) (L : List ℕ) (s : S) (c n : ℕ) → low ≤ N → n ≤ N → Rising L s c n
       → let r = walk T w (λ c n x. leb low n) L s c n in (r.credits ≤ C) × (low ≤ r.count)
   rule_8 low L s c n l b h =
-      walk-ind T w (λ c n x. leb low n) (λ L s c n. Rising L s c n × (n ≤ N)) (λ r. (r.credits ≤ C) × (low ≤ r.count))
-      (λ g L s c n e f p. (rise-skip g L s c n f p.0, p.1))
-      (λ g L s c n e f p. (rise-take g L s c n f p.0, omega (arith, leb-false low n e)))
-      (λ s c n p. (rise-enough [] s c n p.0 p.1, omega (arith, p.0.counts)))
-      (λ g L s c n e p. (rise-enough (g ∷ L) s c n p.0 p.1, leb-true low n e))
+      walk_ind T w (λ c n x. leb low n) (λ L s c n. Rising L s c n × (n ≤ N)) (λ r. (r.credits ≤ C) × (low ≤ r.count))
+      (λ g L s c n e f p. (rise_skip g L s c n f p.0, p.1))
+      (λ g L s c n e f p. (rise_take g L s c n f p.0, omega (arith, leb-false low n e)))
+      (λ s c n p. (rise_enough [] s c n p.0 p.1, omega (arith, p.0.counts)))
+      (λ g L s c n e p. (rise_enough (g ∷ L) s c n p.0 p.1, leb-true low n e))
       L s c n (h, b)
 
   -- rule 7: at most `high` credits. The walk counts no fewer
   pub rule_7 : (high : ℕ) (L : List ℕ) (s : S) (c n : ℕ) → C ≤ high → Rising L s c n → N ≤ (walk T w (λ c n x. ltb high (c + x)) L s c n).count
   rule_7 high L s c n l h =
-      walk-ind T w (λ c n x. ltb high (c + x)) Rising (λ r. N ≤ r.count)
-      (λ g L s c n e f p. rise-skip g L s c n f p)
-      (λ g L s c n e f p. rise-take g L s c n f p)
+      walk_ind T w (λ c n x. ltb high (c + x)) Rising (λ r. N ≤ r.count)
+      (λ g L s c n e f p. rise_skip g L s c n f p)
+      (λ g L s c n e f p. rise_take g L s c n f p)
       (λ s c n p. omega (arith, p.counts))
       (λ g L s c n e p. last g L s c n (ltb-true high (c + w g) e) p)
       L s c n h
@@ -257,5 +257,5 @@ module _ {S : Type 0} (T : Table S) (A : Against T) (w : ℕ → ℕ) (N C : ℕ
       last g L s c n k p = go (dec_lt n N)
         where
           go : Dec (n < N) → N ≤ n
-          go (yes q) = omega (arith, rise-more g L s c n p q)
+          go (yes q) = omega (arith, rise_more g L s c n p q)
           go (no q) = omega arith

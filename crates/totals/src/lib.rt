@@ -1,4 +1,5 @@
 // What is counted or measured over a year beside the sums that it carries.
+#![tactic(auto)]
 pub mod measure;
 
 ghost use Rattle.std.specs.Prelude.{◌≡◌, ◌≤◌};

@@ -32,7 +32,7 @@ fn all_fit(y: Year) -> bool
 }
 
 // The credits of some terms: of all together, and the sum of their squares.
-#[derive(Drop)]
+#[derive(Clone, Copy)]
 struct Loads {
     all: Credits,
     squares: u64,

@@ -20,7 +20,7 @@ use Rattle.year.specs.declared.Course.{Course}
 use Rattle.year.specs.declared.Sums.{Sums}
 use Rattle.year.specs.declared.Term.{Term}
 use Rattle.year.specs.declared.Year.{Year}
-use Rattle.year.proofs.SumLaws.{sums-read}
+use Rattle.year.proofs.SumLaws.{sums_read}
 use Rattle.rules.specs.Spares.{spare, spares, blocked, charged}
 use Rattle.walks.specs.Sparing.{free_in, placed_in, tallies_of, spare_from, spare_in, stuck, charged_at}
 
@@ -37,13 +37,13 @@ charged_entry s l k = ap (λ x. get_or s k 0 - x) (bit_is (l / 2 ^ k % 2) (omega
 
 -- the terms on the list without j are the other terms that it names
 module _ (s : List ℕ) (c : Course) (j : ℕ) (e : lists c j ≡ true) where
-  pub blocked-is : any 16 (stuck s (c.list - 2 ^ j)) ≡ blocked j s c
+  pub blocked_is : any 16 (stuck s (c.list - 2 ^ j)) ≡ blocked j s c
   unfolding blocked
-  blocked-is = ap (any 16) (fun_ext (λ k. ap (λ b. b && eqb (get_or s k 0) 0) (has_struck c.list j k e)))
+  blocked_is = ap (any 16) (fun_ext (λ k. ap (λ b. b && eqb (get_or s k 0) 0) (has_struck c.list j k e)))
 
-  pub charged-is : tab 16 (charged_at s (c.list - 2 ^ j)) ≡ charged j s c
+  pub charged_is : tab 16 (charged_at s (c.list - 2 ^ j)) ≡ charged j s c
   unfolding charged
-  charged-is = ap (tab 16) (fun_ext (λ k. ap (λ b. get_or s k 0 - pick b 1) (has_struck c.list j k e)))
+  charged_is = ap (tab 16) (fun_ext (λ k. ap (λ b. get_or s k 0 - pick b 1) (has_struck c.list j k e)))
 
 -- ---- spares set up
 
@@ -55,7 +55,7 @@ spares_from t u =
 -- those of a year
 pub spares_are : (y : Year) (u : List Sums) → u ≡ tab 16 (sums_at y) → tab 16 (spare_in y.term u) ≡ spares y
 unfolding spares sums_at fixed_count open_count
-spares_are y u e = tab_cong 16 (spare_in y.term u) (spare y) (λ k h. ap (λ (z : Sums). z.free.0 - (low_count y k - z.placed.0)) (sums-read y u e k h))
+spares_are y u e = tab_cong 16 (spare_in y.term u) (spare y) (λ k h. ap (λ (z : Sums). z.free.0 - (low_count y k - z.placed.0)) (sums_read y u e k h))
 
 -- ---- the low counts after the bounds of term j were altered to v
 

@@ -13,7 +13,7 @@ use Rattle.year.specs.Sound.{Sound, TermSound}
 use Rattle.year.specs.declared.Quantity.TheVariants.{Credits, Counts}
 use Rattle.year.specs.declared.Sums.{Sums}
 use Rattle.year.specs.declared.Year.{Year}
-use Rattle.year.proofs.SumLaws.{sums-read}
+use Rattle.year.proofs.SumLaws.{sums_read}
 use Rattle.rules.specs.Step.{Step, over_terms}
 use Rattle.rules.specs.Spares.{spares, walk_of, down, up, least_count, most_count, least_load, most_load, rule6, rule7, rule8, rule9}
 use Rattle.rules.proofs.PlansKept.{Held}
@@ -24,8 +24,8 @@ use Rattle.frame.specs.Bounds.{put, bounds_over, term_in}
 use Rattle.frame.specs.declared.State.{State}
 use Rattle.frame.specs.declared.Bounds.{Bounds}
 use Rattle.frame.proofs.BoundsOnly.{BoundsOnly}
-use Rattle.frame.proofs.Moves.{raise-move, lower-move}
-use Rattle.frame.proofs.BoundsAt.{BoundsAt, at_long, at-sound, at_next}
+use Rattle.frame.proofs.Moves.{raise_move, lower_move}
+use Rattle.frame.proofs.BoundsAt.{BoundsAt, at_long, at_sound, at_next}
 use Rattle.orders.specs.Orders.{orders_of}
 use Rattle.orders.specs.declared.Orders.{Orders}
 use Rattle.orders.proofs.OrderLaws.{OrderFits, down_fits, up_fits, orders_weights}
@@ -72,15 +72,15 @@ module _ (y : Year) (u : List Sums) (e : u ≡ tab 16 (sums_at y)) (j : ℕ) (h 
   begins r o =
       ap₂ (λ s x. ended_of r (term_at y j) (walk_over y.weight y.list j (until_of r (term_at y j)) (take y.courses o) (begun_of s x)))
       (spares_are y u e)
-      (sums-read y u e j h)
+      (sums_read y u e j h)
 
   -- and ends in the definition's one move
   walk_is : (r : WalkRule) → put y j (walked_at r u y.weight y.list (order_of r (orders_of y)) y.courses y.term j) ≡ rule_of r y j
   unfolding least_count most_count least_load most_load walk_of sums_at fixed_credits fixed_count
-  walk_is LeastCount = ap (put y j) (begins LeastCount (down y)) ∙ raise-move 6 y j Counts _ _
-  walk_is MostCount = ap (put y j) (begins MostCount (up y)) ∙ lower-move 7 y j Counts _ false
-  walk_is LeastLoad = ap (put y j) (begins LeastLoad (up y)) ∙ raise-move 8 y j Credits _ _
-  walk_is MostLoad = ap (put y j) (begins MostLoad (down y)) ∙ lower-move 9 y j Credits _ false
+  walk_is LeastCount = ap (put y j) (begins LeastCount (down y)) ∙ raise_move 6 y j Counts _ _
+  walk_is MostCount = ap (put y j) (begins MostCount (up y)) ∙ lower_move 7 y j Counts _ false
+  walk_is LeastLoad = ap (put y j) (begins LeastLoad (up y)) ∙ raise_move 8 y j Credits _ _
+  walk_is MostLoad = ap (put y j) (begins MostLoad (down y)) ∙ lower_move 9 y j Credits _ false
 
 -- ---- a state before rules 6 to 9, with the orders of its year
 
@@ -90,10 +90,10 @@ pub record Ready (w : List ℕ) (s : State) (o : Orders) : Type 0 where
 
 module _ {w : List ℕ} {s : State} {o : Orders} (a : Ready w s o) where
   -- the walk of rule r at a term of the year with other bounds
-  at-hand : (r : WalkRule) (y : Year) (j : ℕ) → BoundsOnly (year_in w s) y
+  at_hand : (r : WalkRule) (y : Year) (j : ℕ) → BoundsOnly (year_in w s) y
       → walked_at r s.sums w s.list (order_of r o) s.courses y.term j
       ≡ walked_at r s.sums y.weight y.list (order_of r (orders_of y)) y.courses y.term j
-  at-hand r y j k =
+  at_hand r y j k =
       let v = sym k.narrower.weight_same in
       let m = sym k.list_same in
       let n = sym k.narrower.courses_same in
@@ -106,32 +106,32 @@ module _ {w : List ℕ} {s : State} {o : Orders} (a : Ready w s o) where
       → BoundsAt (step_in w s) c (over_terms (rule_of r) q)
   row r {b} {c} {q} g =
       at_next (step_in w s) b q g _ (rule_of r) (held r)
-      (λ y j k h l. ap (put y j) (at-hand r y j k) ∙ walk_is y s.sums (sym k.sums_same ∙ k.narrower.sound.sums_kept) j h r)
+      (λ y j k h l. ap (put y j) (at_hand r y j k) ∙ walk_is y s.sums (sym k.sums_same ∙ k.narrower.sound.sums_kept) j h r)
       c
 
   fits : (r : WalkRule) → OrderFits (order_of r o) s.courses
   fits r = subst (λ d. OrderFits (order_of r d) s.courses) (sym a.orders_are) (order_fits r (year_in w s) a.sound)
 
-  sums-are : (k : ℕ) → k < 16 → sums_in s.sums k ≡ sums_to w s.list s.courses k
+  sums_are : (k : ℕ) → k < 16 → sums_in s.sums k ≡ sums_to w s.list s.courses k
   unfolding sums_at fixed_credits open_credits fixed_count open_count
-  sums-are = sums-read (year_in w s) s.sums a.sound.sums_kept
+  sums_are = sums_read (year_in w s) s.sums a.sound.sums_kept
 
   -- what the code of rule r asks of the bounds
-  pub walk-asks : (r : WalkRule) {b : Bounds} {q : Step} {t : Tallies} → BoundsAt (step_in w s) b q → t ≡ tallies_of s.sums
+  pub walk_asks : (r : WalkRule) {b : Bounds} {q : Step} {t : Tallies} → BoundsAt (step_in w s) b q → t ≡ tallies_of s.sums
       → ((s.terms ≤ 16) × (length b.term ≡ 16))
       × (((k : ℕ) → k < 16 → TermSound (term_in b.term k))
       × (((s.courses ≤ 64) × (s.courses ≤ length w) × (s.courses ≤ length s.list) × (s.courses ≤ length (order_of r o)))
       × ((((k : ℕ) → k < s.courses → get_or (order_of r o) k 0 < s.courses) × ((i : ℕ) → i < s.courses → get_or w i 0 ≤ 1000))
       × (((k : ℕ) → k < 16 → sums_in s.sums k ≡ sums_to w s.list s.courses k)
       × (t ≡ tallies_of s.sums)))))
-  walk-asks r {b} {q} g e =
+  walk_asks r {b} {q} g e =
       let f = fits r in (
         (a.sound.terms_most, at_long (step_in w s) b q g),
         (
-          at-sound (step_in w s) b q g,
+          at_sound (step_in w s) b q g,
           (
             (a.sound.courses_most, omega (arith, a.sound), omega (arith, a.sound), omega (arith, a.sound, f.long)),
-            ((f.small, λ i h. (a.sound.course_sound i h).weight_most), (sums-are, e)),
+            ((f.small, λ i h. (a.sound.course_sound i h).weight_most), (sums_are, e)),
           ),
         ),
       )

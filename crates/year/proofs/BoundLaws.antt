@@ -56,30 +56,30 @@ ordered High Counts t o = le-ltb _ _ o.count_ordered
 
 module _ (s : Side) (q : Quantity) (t : Term) (n : ℕ) where
   -- where something is altered, the bound is n
-  pub tight-new : (tightened s q t n).altered ≡ true → (tightened s q t n).term ≡ with_bound s q t n
+  pub tight_new : (tightened s q t n).altered ≡ true → (tightened s q t n).term ≡ with_bound s q t n
   unfolding tightened
-  tight-new e = ap (with_bound s q t) (inner_new s n (bound_of s q t) e)
+  tight_new e = ap (with_bound s q t) (inner_new s n (bound_of s q t) e)
 
   -- and n is beyond the old one, and not beyond the opposite one unless it has crossed
-  pub tight-beyond : (tightened s q t n).altered ≡ true → (tightened s q t n).crossed ≡ false
+  pub tight_beyond : (tightened s q t n).altered ≡ true → (tightened s q t n).crossed ≡ false
       → (beyond s n (bound_of s q t) ≡ true) × (beyond s n (bound_of (opposite s) q t) ≡ false)
   unfolding tightened
-  tight-beyond e c = (e, ap (λ m. beyond s m (bound_of (opposite s) q t)) (sym (inner_new s n (bound_of s q t) e)) ∙ c)
+  tight_beyond e c = (e, ap (λ m. beyond s m (bound_of (opposite s) q t)) (sym (inner_new s n (bound_of s q t) e)) ∙ c)
 
   -- bounds in order cross by n alone
-  pub tight-crossed : TermSound t → (tightened s q t n).crossed ≡ true → beyond s n (bound_of (opposite s) q t) ≡ true
+  pub tight_crossed : TermSound t → (tightened s q t n).crossed ≡ true → beyond s n (bound_of (opposite s) q t) ≡ true
   unfolding tightened
-  tight-crossed o c = crossed_new s n (bound_of s q t) (bound_of (opposite s) q t) (ordered s q t o) c
+  tight_crossed o c = crossed_new s n (bound_of s q t) (bound_of (opposite s) q t) (ordered s q t o) c
 
   -- a bound that is no tighter than one in order does not cross
-  pub loose-within : TermSound t → (tightened s q t n).altered ≡ false → beyond s n (bound_of (opposite s) q t) ≡ false
+  pub loose_within : TermSound t → (tightened s q t n).altered ≡ false → beyond s n (bound_of (opposite s) q t) ≡ false
   unfolding tightened
-  loose-within o e = loose s n (bound_of s q t) (bound_of (opposite s) q t) (ordered s q t o) e
+  loose_within o e = loose s n (bound_of s q t) (bound_of (opposite s) q t) (ordered s q t o) e
 
   -- where nothing is altered, the term is the same
-  pub tight-same : (tightened s q t n).altered ≡ false → (tightened s q t n).term ≡ t
+  pub tight_same : (tightened s q t n).altered ≡ false → (tightened s q t n).term ≡ t
   unfolding tightened
-  tight-same e = ap (with_bound s q t) (inner_old s n (bound_of s q t) e) ∙ same_bound s q t
+  tight_same e = ap (with_bound s q t) (inner_old s n (bound_of s q t) e) ∙ same_bound s q t
 
 -- ---- two moves at once
 

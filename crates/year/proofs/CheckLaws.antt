@@ -47,15 +47,15 @@ crossing y crossed n = choose crossed (answered Crossing y) n
 
 module _ (y : Year) (missing outside crossed : Bool) (a : Narrowing) (due : a ≡ (checked y missing outside (crossing y crossed (answered Done y))).answer) where
   -- done is due: no test refuses, and the narrowing itself is what is given
-  pub due-passed : a ≡ Done → (is_sound y ≡ true) × (missing ≡ false) × (outside ≡ false) × (crossed ≡ false)
-  due-passed e = passed y (is_sound y) missing outside crossed (sym due ∙ e)
+  pub due_passed : a ≡ Done → (is_sound y ≡ true) × (missing ≡ false) × (outside ≡ false) × (crossed ≡ false)
+  due_passed e = passed y (is_sound y) missing outside crossed (sym due ∙ e)
 
-  pub due-done : a ≡ Done → (n : Narrowed) → n ≡ checked y missing outside (crossing y crossed n)
-  due-done e n = let p = due-passed e in rw (p.0, p.1, p.2, p.3) refl
+  pub due_done : a ≡ Done → (n : Narrowed) → n ≡ checked y missing outside (crossing y crossed n)
+  due_done e n = let p = due_passed e in rw (p.0, p.1, p.2, p.3) refl
 
   -- a refusal is due: it is given, beside the year as it was
-  pub due-refused : (a ≡ Done → ⊥) → (n : Narrowed) → answered a y ≡ checked y missing outside (crossing y crossed n)
-  due-refused h n =
+  pub due_refused : (a ≡ Done → ⊥) → (n : Narrowed) → answered a y ≡ checked y missing outside (crossing y crossed n)
+  due_refused h n =
       ap (λ x. answered x y) due ∙ stopped y (is_sound y) missing outside crossed n (λ e. h (due ∙ e))
 
 -- no refusal's key is the key of done
@@ -65,41 +65,41 @@ no_refusal h = miss (1 ∷ 2 ∷ 3 ∷ 4 ∷ []) 0 tt h
 -- ---- a narrowing that names course i and term j
 
 module _ (y : Year) (i j : ℕ) (a : Narrowing) (due : a ≡ (checked y (no_such y i j) false (answered Done y)).answer) where
-  pub named-there : a ≡ Done → Sound y × ((i < y.courses) × (j < y.terms))
-  named-there e =
-      let p = due-passed y (no_such y i j) false false a due e in
+  pub named_there : a ≡ Done → Sound y × ((i < y.courses) × (j < y.terms))
+  named_there e =
+      let p = due_passed y (no_such y i j) false false a due e in
       let h = or_false _ _ p.1 in
       (sound_of y p.0, (leb-false _ _ h.0, leb-false _ _ h.1))
 
   -- both are entries of the arrays
   pub named_in : a ≡ Done → (i < 64) × (j < 16)
-  named_in e = let t = named-there e in (omega (arith, t), omega (arith, t))
+  named_in e = let t = named_there e in (omega (arith, t), omega (arith, t))
 
-  pub named-done : a ≡ Done → (r n : Narrowed) → r ≡ n → r ≡ checked y (no_such y i j) false n
-  named-done e r n h = h ∙ due-done y (no_such y i j) false false a due e n
+  pub named_done : a ≡ Done → (r n : Narrowed) → r ≡ n → r ≡ checked y (no_such y i j) false n
+  named_done e r n h = h ∙ due_done y (no_such y i j) false false a due e n
 
-  pub named-refused : (a ≡ Done → ⊥) → (n : Narrowed) → answered a y ≡ checked y (no_such y i j) false n
-  named-refused = due-refused y (no_such y i j) false false a due
+  pub named_refused : (a ≡ Done → ⊥) → (n : Narrowed) → answered a y ≡ checked y (no_such y i j) false n
+  named_refused = due_refused y (no_such y i j) false false a due
 
 -- ---- a narrowing of a bound of term j, by a move w that is v
 
 module _ (y : Year) (j : ℕ) (outside : Bool) (w v : Tight) (is : w ≡ v) (a : Narrowing)
     (due : a ≡ (checked y (leb y.terms j) outside (crossing y w.crossed (answered Done y))).answer) where
-  pub bound-in : a ≡ Done → j < 16
-  bound-in e =
-      let p = due-passed y (leb y.terms j) outside w.crossed a due e in
+  pub bound_in : a ≡ Done → j < 16
+  bound_in e =
+      let p = due_passed y (leb y.terms j) outside w.crossed a due e in
       omega (arith, sound_of y p.0, leb-false y.terms j p.1)
 
   abbrev given : Tight → Narrowed
   given u = checked y (leb y.terms j) outside (moving y j u)
 
-  pub bound-done : a ≡ Done → (z : Year) → z ≡ choose w.altered (with_term y j w.term) y → answered a z ≡ given v
-  bound-done e z h =
-      ap₂ answered e h ∙ moved w.altered ∙ due-done y (leb y.terms j) outside w.crossed a due e _ ∙ ap given is
+  pub bound_done : a ≡ Done → (z : Year) → z ≡ choose w.altered (with_term y j w.term) y → answered a z ≡ given v
+  bound_done e z h =
+      ap₂ answered e h ∙ moved w.altered ∙ due_done y (leb y.terms j) outside w.crossed a due e _ ∙ ap given is
     where
       moved : (b : Bool) → answered Done (choose b (with_term y j w.term) y) ≡ choose b (answered Done (with_term y j w.term)) (answered Done y)
       moved true = refl
       moved false = refl
 
-  pub bound-refused : (a ≡ Done → ⊥) → answered a y ≡ given v
-  bound-refused h = due-refused y (leb y.terms j) outside w.crossed a due h _ ∙ ap given is
+  pub bound_refused : (a ≡ Done → ⊥) → answered a y ≡ given v
+  bound_refused h = due_refused y (leb y.terms j) outside w.crossed a due h _ ∙ ap given is

@@ -28,9 +28,9 @@ module _ (y : Year) (j : ℕ) (t : Term) (s : Sound y) (h : j < y.terms) (sound 
   term k m (yes e) = rw (e, term_same y j t (omega (arith, s))) sound
   term k m (no ne) = rw (term_other y j t k ne) (s.term_sound k m)
 
-  pub with-term-sound : Sound (with_term y j t)
+  pub with_term_sound : Sound (with_term y j t)
   unfolding sums_at fixed_credits open_credits fixed_count open_count
-  with-term-sound =
+  with_term_sound =
       record {
         terms_least = s.terms_least;
         terms_most = s.terms_most;
@@ -60,9 +60,9 @@ module _ (y : Year) (i l : ℕ) (s : Sound y) (h : i < y.courses) (some : 1 ≤ 
       (record { weight_least = (s.course_sound i h).weight_least; weight_most = (s.course_sound i h).weight_most; list_some = some; list_within = within })
   course k m (no ne) = rw (list_other y i l k ne) (s.course_sound k m)
 
-  pub with-list-sound : Sound (with_list y i l)
+  pub with_list_sound : Sound (with_list y i l)
   unfolding sums_at fixed_credits open_credits fixed_count open_count
-  with-list-sound =
+  with_list_sound =
       record {
         terms_least = s.terms_least;
         terms_most = s.terms_most;
@@ -79,11 +79,11 @@ module _ (y : Year) (i l : ℕ) (s : Sound y) (h : i < y.courses) (some : 1 ≤ 
 
 -- a course placed in a term of the year; a course struck from a term that is not its only one
 pub placed_sound : (y : Year) (i j : ℕ) → Sound y → i < y.courses → j < y.terms → Sound (placed y i j)
-placed_sound y i j s h l = with-list-sound y i (2 ^ j) s h (pow_pos j) (power_below j y.terms l)
+placed_sound y i j s h l = with_list_sound y i (2 ^ j) s h (pow_pos j) (power_below j y.terms l)
 
 pub struck_sound : (y : Year) (i j : ℕ) → Sound y → i < y.courses → lists (course_at y i) j ≡ true → (list y i ≡ 2 ^ j → ⊥) → Sound (struck y i j)
 struck_sound y i j s h e ne =
     let le : 2 ^ j ≤ list y i = has_le (list y i) j e in
     let some : 1 ≤ list y i - 2 ^ j = omega (arith, ne) in
     let within : list y i - 2 ^ j < 2 ^ y.terms = omega (arith, (s.course_sound i h).list_within) in
-    with-list-sound y i (list y i - 2 ^ j) s h some within
+    with_list_sound y i (list y i - 2 ^ j) s h some within

@@ -14,7 +14,7 @@ use Rattle.theory.proofs.SumLaws.{sum_more, sum_cong, sum_add, sum_zero}
 use Rattle.year.specs.Year.{course_in, lists, is_fixed, is_open}
 use Rattle.year.specs.Sums.{fixed_weight, open_weight, fixed_one, open_one, sums_of, no_sums}
 use Rattle.year.specs.SumsOf.{sums_to}
-use Rattle.year.proofs.SumLaws.{weights-to, possible-to, counts-to}
+use Rattle.year.proofs.SumLaws.{weights_to, possible_to, counts_to}
 
 pub listed : (l j x : ℕ) → pick (has l j) x ≡ pick (eqb l (2 ^ j)) x + pick (has l j && not (eqb l (2 ^ j))) x
 listed l j x = go (eqb l (2 ^ j)) (has l j) refl refl
@@ -33,13 +33,13 @@ abbrev pub listed_one : List ℕ → List ℕ → ℕ → ℕ → ℕ
 listed_one w l j i = pick (lists (course_in w l i) j) 1
 
 module _ (w l : List ℕ) (j n : ℕ) where
-  pub listed-weights : sum n (listed_weight w l j) ≡ sum n (fixed_weight w l j) + sum n (open_weight w l j)
-  listed-weights =
+  pub listed_weights : sum n (listed_weight w l j) ≡ sum n (fixed_weight w l j) + sum n (open_weight w l j)
+  listed_weights =
       sum_cong n (listed_weight w l j) (λ i. fixed_weight w l j i + open_weight w l j i) (λ i h. listed (get_or l i 0) j (get_or w i 0))
       ∙ sum_add n (fixed_weight w l j) (open_weight w l j)
 
-  pub listed-ones : sum n (listed_one w l j) ≡ sum n (fixed_one w l j) + sum n (open_one w l j)
-  listed-ones =
+  pub listed_ones : sum n (listed_one w l j) ≡ sum n (fixed_one w l j) + sum n (open_one w l j)
+  listed_ones =
       sum_cong n (listed_one w l j) (λ i. fixed_one w l j i + open_one w l j i) (λ i h. listed (get_or l i 0) j 1)
       ∙ sum_add n (fixed_one w l j) (open_one w l j)
 
@@ -52,20 +52,20 @@ pub record SoFar (w l : List ℕ) (j n fixed possible placed listed : ℕ) : Typ
   pub listed_is : listed ≡ sum n (listed_one w l j)
 
 module _ (w l : List ℕ) (j n fixed possible placed count : ℕ) (s : SoFar w l j n fixed possible placed count) where
-  pub so-far-small : ((i : ℕ) → i < n → get_or w i 0 ≤ 1000) → (fixed ≤ possible) × (possible ≤ 1000 * n) × (placed ≤ count) × (count ≤ n)
-  so-far-small light =
-      let c = listed-weights w l j n in
-      let o = listed-ones w l j n in (
+  pub so_far_small : ((i : ℕ) → i < n → get_or w i 0 ≤ 1000) → (fixed ≤ possible) × (possible ≤ 1000 * n) × (placed ≤ count) × (count ≤ n)
+  so_far_small light =
+      let c = listed_weights w l j n in
+      let o = listed_ones w l j n in (
         omega (arith, s, c),
-        omega (arith, s, c, possible-to w l j n, weights-to w l n light),
+        omega (arith, s, c, possible_to w l j n, weights_to w l n light),
         omega (arith, s, o),
-        omega (arith, s, o, counts-to w l j n),
+        omega (arith, s, o, counts_to w l j n),
       )
 
-  pub so-far-sums : sums_of fixed possible placed (count - placed) ≡ sums_to w l n j
-  so-far-sums =
-      let p = s.possible_is ∙ listed-weights w l j n in
-      let o : count - placed ≡ sum n (open_one w l j) = omega (arith, s, listed-ones w l j n) in
+  pub so_far_sums : sums_of fixed possible placed (count - placed) ≡ sums_to w l n j
+  so_far_sums =
+      let p = s.possible_is ∙ listed_weights w l j n in
+      let o : count - placed ≡ sum n (open_one w l j) = omega (arith, s, listed_ones w l j n) in
       λ t. record { fixed = record { 0 = s.fixed_is t }; possible = record { 0 = p t }; placed = record { 0 = s.placed_is t }; free = record { 0 = o t } }
 
   -- one course more

@@ -241,10 +241,10 @@ module _ (test : List ℕ → Bool) where
           ]
       go false q m ih = (there r x rs (ih m).0, (ih m).1)
 
-  apart-kept : (rs : List (List ℕ)) → Apart rs → Apart (keep test rs)
+  apart_kept : (rs : List (List ℕ)) → Apart rs → Apart (keep test rs)
   unfolding keep Apart
-  apart-kept [] a = a
-  apart-kept (x ∷ rs) a = go (test x) (apart-kept rs a.1)
+  apart_kept [] a = a
+  apart_kept (x ∷ rs) a = go (test x) (apart_kept rs a.1)
     where
       go : (b : Bool) → Apart (keep test rs) → Apart (choose b (x ∷ keep test rs) (keep test rs))
       go true ih = (λ m. a.0 (kept_from x rs m).0, ih)
@@ -255,10 +255,10 @@ module _ (test : List ℕ → Bool) where
 pub each_plan_once : (y : Year) → EachPlanOnce y (plans_of y)
 unfolding plans_of
 each_plan_once y = record {
-  every = λ p h. kept test (row_of y p) tried (to-test p h) (row_among y.terms y.courses p h.within);
+  every = λ p h. kept test (row_of y p) tried (to_test p h) (row_among y.terms y.courses p h.within);
   only = λ p a. plan_cong y (placing_of (row_of y p)) p (read p) (plan_of_test y (placing_of (row_of y p)) (kept_from test (row_of y p) tried a).1);
   a_row = λ k l. of_length (get_or (keep test tried) k []) (k, l, refl);
-  once = apart_once (keep test tried) (apart-kept test tried (apart_rows y.terms y.courses));
+  once = apart_once (keep test tried) (apart_kept test tried (apart_rows y.terms y.courses));
 }
   where
     test : List ℕ → Bool
@@ -270,8 +270,8 @@ each_plan_once y = record {
     read : (p : Placing) (i : ℕ) → i < y.courses → placing_of (row_of y p) i ≡ p i
     read p i l = get_or_tab y.courses p 0 i l
 
-    to-test : (p : Placing) → Plan y p → test (row_of y p) ≡ true
-    to-test p h = test_of_plan y (placing_of (row_of y p)) (plan_cong y p (placing_of (row_of y p)) (λ i l. sym (read p i l)) h)
+    to_test : (p : Placing) → Plan y p → test (row_of y p) ≡ true
+    to_test p h = test_of_plan y (placing_of (row_of y p)) (plan_cong y p (placing_of (row_of y p)) (λ i l. sym (read p i l)) h)
 
     of_length : (r : List ℕ) → Among (keep test tried) r → row_of y (placing_of r) ≡ r
     of_length r a = tab_get_or r 0 y.courses (row_length y.terms y.courses r (kept_from test r tried a).0)

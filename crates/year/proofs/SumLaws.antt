@@ -28,19 +28,19 @@ abbrev weight_in : List ℕ → ℕ → ℕ
 weight_in w i = get_or w i 0
 
 module _ (w l : List ℕ) where
-  pub weights-to : (n : ℕ) → ((i : ℕ) → i < n → weight_in w i ≤ 1000) → sum n (weight_in w) ≤ 1000 * n
-  weights-to n h = omega (arith, sum_le_mul n 1000 (weight_in w) h)
+  pub weights_to : (n : ℕ) → ((i : ℕ) → i < n → weight_in w i ≤ 1000) → sum n (weight_in w) ≤ 1000 * n
+  weights_to n h = omega (arith, sum_le_mul n 1000 (weight_in w) h)
 
-  pub possible-to : (j n : ℕ) → sum n (fixed_weight w l j) + sum n (open_weight w l j) ≤ sum n (weight_in w)
-  possible-to j n =
+  pub possible_to : (j n : ℕ) → sum n (fixed_weight w l j) + sum n (open_weight w l j) ≤ sum n (weight_in w)
+  possible_to j n =
       omega (
         arith,
         sum_add n (fixed_weight w l j) (open_weight w l j),
         sum_mono n (λ i. fixed_weight w l j i + open_weight w l j i) (weight_in w) (λ i h. apart (is_fixed (course_in w l i) j) (lists (course_in w l i) j) (weight_in w i)),
       )
 
-  pub counts-to : (j n : ℕ) → sum n (fixed_one w l j) + sum n (open_one w l j) ≤ n
-  counts-to j n =
+  pub counts_to : (j n : ℕ) → sum n (fixed_one w l j) + sum n (open_one w l j) ≤ n
+  counts_to j n =
       omega (
         arith,
         sum_add n (fixed_one w l j) (open_one w l j),
@@ -59,33 +59,33 @@ module _ (w l : List ℕ) where
 
 pub all_credits_le : (y : Year) → Sound y → all_credits y ≤ 1000 * y.courses
 unfolding all_credits
-all_credits_le y s = weights-to y.weight y.list y.courses (λ i h. (s.course_sound i h).weight_most)
+all_credits_le y s = weights_to y.weight y.list y.courses (λ i h. (s.course_sound i h).weight_most)
 
 pub possible_le : (y : Year) (j : ℕ) → fixed_credits y j + open_credits y j ≤ all_credits y
 unfolding fixed_credits open_credits all_credits
-possible_le y j = possible-to y.weight y.list j y.courses
+possible_le y j = possible_to y.weight y.list j y.courses
 
 pub counts_le : (y : Year) (j : ℕ) → fixed_count y j + open_count y j ≤ y.courses
 unfolding fixed_count open_count
-counts_le y j = counts-to y.weight y.list j y.courses
+counts_le y j = counts_to y.weight y.list j y.courses
 
 -- ---- an array that holds the sums of each term
 
 module _ (y : Year) (s : List Sums) (e : s ≡ tab 16 (sums_at y)) (k : ℕ) (h : k < 16) where
-  pub sums-read : get_or s k no_sums ≡ sums_at y k
-  sums-read = rw e (get_or_tab 16 (sums_at y) no_sums k h)
+  pub sums_read : get_or s k no_sums ≡ sums_at y k
+  sums_read = rw e (get_or_tab 16 (sums_at y) no_sums k h)
 
-  pub fixed-read : (get_or s k no_sums).fixed.0 ≡ fixed_credits y k
+  pub fixed_read : (get_or s k no_sums).fixed.0 ≡ fixed_credits y k
   unfolding sums_at
-  fixed-read = ap (λ (z : Sums). z.fixed.0) sums-read
+  fixed_read = ap (λ (z : Sums). z.fixed.0) sums_read
 
-  pub placed-read : (get_or s k no_sums).placed.0 ≡ fixed_count y k
+  pub placed_read : (get_or s k no_sums).placed.0 ≡ fixed_count y k
   unfolding sums_at
-  placed-read = ap (λ (z : Sums). z.placed.0) sums-read
+  placed_read = ap (λ (z : Sums). z.placed.0) sums_read
 
-  pub free-read : (get_or s k no_sums).free.0 ≡ open_count y k
+  pub free_read : (get_or s k no_sums).free.0 ≡ open_count y k
   unfolding sums_at
-  free-read = ap (λ (z : Sums). z.free.0) sums-read
+  free_read = ap (λ (z : Sums). z.free.0) sums_read
 
 pub sums_long : (y : Year) → Sound y → length y.sums ≡ 16
 sums_long y s = ap length s.sums_kept ∙ length_tab 16 (sums_at y)

@@ -1,4 +1,5 @@
 // What a year is: its terms, its courses, the sums of its terms, its limits; what is sound; the doors; the narrowings.
+#![tactic(auto)]
 mod bar;
 pub mod by_hand;
 mod checks;
@@ -14,15 +15,15 @@ ghost use Rattle.std.specs.Prelude.{◌≡◌};
 ghost use Rattle.year.specs.Doors.{empty_year};
 
 // A number of credits. Never compared with a number of courses.
-#[derive(Drop)]
+#[derive(Clone, Copy)]
 pub struct Credits(pub u32);
 
 // A number of courses.
-#[derive(Drop)]
+#[derive(Clone, Copy)]
 pub struct Courses(pub u32);
 
 // A term's bounds: credits from `low` to `high`, and a count of courses from `least` to `most`.
-#[derive(Drop)]
+#[derive(Clone, Copy)]
 pub struct Term {
     pub low: Credits,
     pub high: Credits,
@@ -31,14 +32,14 @@ pub struct Term {
 }
 
 // A course with its weight and its list of terms: bit j of the list says that term j is listed.
-#[derive(Drop)]
+#[derive(Clone, Copy)]
 pub struct Course {
     pub weight: Credits,
     pub list: u16,
 }
 
 // The four sums of a term: the credits fixed in it (p), those fixed or open (P), the number fixed and the number open.
-#[derive(Drop)]
+#[derive(Clone, Copy)]
 pub struct Sums {
     pub fixed: Credits,
     pub possible: Credits,
@@ -48,7 +49,7 @@ pub struct Sums {
 
 // A year of `terms` terms and `courses` courses; course i has entry i of the weights, in credits, and of the lists.
 // Entries past the last are zero in a sound year, and its sums are those over the lists.
-#[derive(Drop)]
+#[derive(Clone, Copy)]
 pub struct Year {
     pub terms: usize,
     pub courses: usize,
@@ -59,20 +60,20 @@ pub struct Year {
 }
 
 // What a bound is of: a term's credits or the number of its courses. Each has a bound on either side.
-#[derive(Drop)]
+#[derive(Clone, Copy)]
 pub enum Quantity {
     Credits,
     Counts,
 }
 
-#[derive(Drop)]
+#[derive(Clone, Copy)]
 pub enum Side {
     Low,
     High,
 }
 
 // A term after its bounds were made tighter: whether one moved, and whether a pair crossed.
-#[derive(Drop)]
+#[derive(Clone, Copy)]
 pub struct Tight {
     pub term: Term,
     pub altered: bool,
@@ -80,7 +81,7 @@ pub struct Tight {
 }
 
 // How a narrowing ended: done, or refused by 8, 10, 11 or 12.
-#[derive(Drop)]
+#[derive(Clone, Copy)]
 pub enum Narrowing {
     Done,
     Unsound,
@@ -89,14 +90,14 @@ pub enum Narrowing {
     Crossing,
 }
 
-#[derive(Drop)]
+#[derive(Clone, Copy)]
 pub struct Narrowed {
     pub answer: Narrowing,
     pub year: Year,
 }
 
 // The imbalance of a settled year, or refusal 8 or 14.
-#[derive(Drop)]
+#[derive(Clone, Copy)]
 pub enum Measured {
     Imbalance(u64),
     Unsound,

@@ -24,11 +24,11 @@ pub fn nothing() -> Sums
 // ---- all courses
 
 // Credits while they are added up: those of a whole year fit sixteen bits, of which a vector holds twice as many.
-#[derive(Drop)]
+#[derive(Clone, Copy)]
 struct ShortCredits(u16);
 
 // Courses while they are added up.
-#[derive(Drop)]
+#[derive(Clone, Copy)]
 struct ShortCourses(u16);
 
 // x where the test passes, and 0 where it fails.

@@ -1,0 +1,18 @@
+-- `put_courses`: the blocks of the courses passed so far are laid behind the terms.
+use Prim.Native.Nat.{ℕ, ◌≤◌, ◌-◌, ◌+◌, ◌*◌}
+use mathlib.Core.List.{List}
+use mathlib.Core.Path.{◌≡◌, ◌∙◌, ap, ap₂, refl}
+use native.Mathlib.Omega.{arith}
+use borrow.Author.Rules.{rules}
+use lib.ListN.{length}
+use Rattle.year.specs.Sound.{Sound}
+use Rattle.records.specs.Writing.{course_bytes, course_block, joined}
+use Rattle.records.specs.Laid.{laid}
+use Rattle.records.proofs.LayLaws as law
+use Rattle.records.proofs.blocks.put_courses.Given as goal
+
+abbrev pub invariant-loop-i : goal.invariant-loop-i
+invariant-loop-i l = (l.i ≤ l.y.courses) × (l.buf ≡ laid l.initial.buf (l.y.terms * 16) (joined (course_block l.y) l.i)) × (length l.buf ≡ length l.initial.buf)
+
+abbrev pub decreases-loop-i : goal.decreases-loop-i
+decreases-loop-i l = l.y.courses - l.i

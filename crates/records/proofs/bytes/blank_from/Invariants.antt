@@ -1,0 +1,16 @@
+-- `blank_from`: the bytes passed so far are zero.
+use Prim.Native.Nat.{ℕ, ◌≤◌, ◌-◌}
+use mathlib.Core.Path.{◌≡◌, ◌∙◌, ap, sym}
+use mathlib.Core.Bool.{Bool, ◌&&◌}
+use native.Mathlib.Omega.{arith}
+use borrow.Author.Rules.{rules}
+use Rattle.theory.specs.Tests.{all}
+use Rattle.theory.proofs.TestLaws.{all_more}
+use Rattle.records.specs.Bytes.{blank_at}
+use Rattle.records.proofs.bytes.blank_from.Given as goal
+
+abbrev pub invariant-loop-i : goal.invariant-loop-i
+invariant-loop-i l = (l.i ≤ l.i-end) × (l.i-end ≡ 16 - l.k) × (l.blank ≡ all l.i (blank_at l.s l.at l.k))
+
+abbrev pub decreases-loop-i : goal.decreases-loop-i
+decreases-loop-i l = l.i-end - l.i

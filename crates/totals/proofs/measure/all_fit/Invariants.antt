@@ -1,0 +1,18 @@
+-- The loop's invariant: the flag says whether the first k terms are within their bounds. What the year carries is what is fixed in it.
+use Prim.Native.Nat.{◌≤◌, ◌<◌, ◌-◌}
+use mathlib.Core.Path.{◌≡◌, sym, ap, ap₂, ◌∙◌}
+use mathlib.Core.Bool.{◌&&◌}
+use native.Mathlib.Omega.{arith}
+use borrow.Author.Rules.{rules}
+use Rattle.theory.specs.Tests.{all}
+use Rattle.theory.proofs.TestLaws.{all_more}
+use Rattle.year.specs.Year.{term_at}
+use Rattle.year.specs.Imbalance.{fits, fits_at}
+use Rattle.year.proofs.SumLaws.{fixed_read, placed_read, sums_long}
+use Rattle.totals.proofs.measure.all_fit.Given as goal
+
+abbrev pub invariant-loop-k : goal.invariant-loop-k
+invariant-loop-k l = (l.k ≤ l.y.terms) × (l.good ≡ all l.k (fits_at l.y))
+
+abbrev pub decreases-loop-k : goal.decreases-loop-k
+decreases-loop-k l = l.y.terms - l.k
