@@ -13,7 +13,7 @@ use Rattle.records.proofs.GatherLaws.{gathered_zero, gathered_more, summed_long,
 use Rattle.records.proofs.ListLaws.{Front, read_front}
 use borrow.Author.Rules.{rules}
 use Rattle.records.proofs.read.Goals as goal
-use Rattle.records.proofs.read.Goals.{At-loop-k, In-Good, In-Good-read_term, In-loop-k}
+use Rattle.records.proofs.read.Goals.{then-s-at+in-Good, else-s-at+then-s-at-2+in-Good-read_term, At-loop-k, In-Good, In-Good-read_term, In-loop-k}
 
 -- the list that is read
 abbrev list : At-loop-k → List ℕ
@@ -93,10 +93,10 @@ loop-k-preserved c =
     let y = l.loop-k.y in
     let more : read_to s (k + 1) ≡ taken y k (record_in s k y) = ap (read_to s) (add-one k) ∙ gathered_more (record_in s) blank_year k y l.loop-k.invariant.1 in (
       search rules,
-      ⊎_elim
-          (λ w. more ∙ ap (taken y k) (at_course s (k * 16) y.terms y.courses w.0.taken ∙ ap of_course (sym w.1.ensures ∙ w.3.given.1)) ∙ ap done (sym w.5))
-          (λ w. more ∙ ap (taken y k) (at_term s (k * 16) y.terms y.courses w.2.taken ∙ ap of_term (sym w.3.ensures ∙ w.5.given.1)) ∙ ap done (sym w.7))
-          c.if-s-at.branch,
+      elim c.if-s-at.branch [
+        | then-s-at+in-Good w ↦ more ∙ ap (taken y k) (at_course s (k * 16) y.terms y.courses w.if-s-at.true ∙ ap of_course (sym w.read_course.ensures ∙ w.in-Good.is)) ∙ ap done (sym w.y-is)
+        | else-s-at+then-s-at-2+in-Good-read_term w ↦ more ∙ ap (taken y k) (at_term s (k * 16) y.terms y.courses w.if-s-at-2.true ∙ ap of_term (sym w.read_term.ensures ∙ w.in-Good-read_term.is)) ∙ ap done (sym w.y-is)
+      ],
     )
 
 pub with_sums-z-requires : goal.with_sums-z-requires

@@ -14,7 +14,7 @@ put_terms-requires c = record { sound = c.requires.sound; terms_in_bounds = omeg
 
 pub put_courses-requires : goal.put_courses-requires
 put_courses-requires c =
-    record { sound = c.requires.sound; courses_in_bounds = omega (arith, c.requires.courses_in_bounds, c.put_terms.auto.1.0) }
+    record { sound = c.requires.sound; courses_in_bounds = omega (arith, c.requires.courses_in_bounds, c.put_terms.auto.buf) }
 
 pub returns : goal.returns
 returns c =

@@ -10,11 +10,9 @@ use Rattle.text.proofs.number.Goals as goal
 
 pub put-requires : goal.put-requires
 put-requires c =
-    let b = c.before.before.before.before.before.before in
-    subst (λ (l : List ℕ). b.args.at + length l ≤ length b.args.buf.now) (sym (part_is b.args.n _ _ c.ten-digits.ensures c.places-from.ensures.value)) b.requires
+    subst (λ (l : List ℕ). c.args.at + length l ≤ length c.args.buf.now) (sym (part_is c.args.n _ _ c.ten-digits.ensures c.places-from.ensures.value)) c.requires
 
 pub returns : goal.returns
 returns c =
-    let b = c.before.before.before.before.before.before.before.before.before in
-    subst (λ (l : List ℕ). Put b.args.buf.now b.args.at l c.put.new.0 c.put.result)
-    (part_is b.args.n _ _ c.ten-digits.ensures c.places-from.ensures.value) c.put.ensures
+    subst (λ (l : List ℕ). Put c.args.buf.now c.args.at l c.put.new.buf c.put.result)
+    (part_is c.args.n _ _ c.ten-digits.ensures c.places-from.ensures.value) c.put.ensures

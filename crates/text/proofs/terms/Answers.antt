@@ -35,7 +35,7 @@ loop-j-preserved c =
     let t = b.args.list in
     let l = c.loop-j in
     let p = c.piece-end in
-    let put = subst (λ (x : Bool). Put l.buf l.end (piece_of x t l.j) p.new.0 p.result) l.invariant.2 p.ensures in
+    let put = subst (λ (x : Bool). Put l.buf l.end (piece_of x t l.j) p.new.buf p.result) l.invariant.2 p.ensures in
     let next = law.turn (law.text_to t) (law.next_term t) 16 (law.terms_more t) l.j c.loop-j-test.true (fits b) l.invariant.1 put in
     (search rules, next, ap (λ (x : Bool). x || has t l.j) l.invariant.2 ∙ sym (law.some_more t l.j))
 

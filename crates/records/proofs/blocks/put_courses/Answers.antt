@@ -51,7 +51,7 @@ loop-i-preserved c =
     let a = c.args in
     let y = a.y in
     let i = c.loop-i.i in
-    let is : c.put.new.0 ≡ laid a.buf.now (y.terms * 16) (joined (course_block y) (i + 1)) =
+    let is : c.put.new.buf ≡ laid a.buf.now (y.terms * 16) (joined (course_block y) (i + 1)) =
     c.put.ensures
     ∙ ap₂ (λ (d r : List ℕ). laid d ((y.terms + i) * 16) r) c.loop-i.invariant.1 (c.course_bytes.ensures ∙ ap (course_bytes i) c.course_of-c.ensures)
     ∙ law.laid_block a.buf.now (y.terms * 16) (course_block y) i ((y.terms + i) * 16) (λ k. refl) (omega arith) (omega (arith, c.requires.courses_in_bounds)) in

@@ -42,7 +42,7 @@ loop-j-preserved c =
     let a = c.args in
     let y = a.y in
     let j = c.loop-j.j in
-    let is : c.put.new.0 ≡ laid a.buf.now 0 (joined (term_block y) (j + 1)) =
+    let is : c.put.new.buf ≡ laid a.buf.now 0 (joined (term_block y) (j + 1)) =
     c.put.ensures
     ∙ ap₂ (λ (d r : List ℕ). laid d (j * 16) r) c.loop-j.invariant.1 c.term_bytes.ensures
     ∙ law.laid_block a.buf.now 0 (term_block y) j (j * 16) (λ k. refl) (omega arith) (omega (arith, c.requires.terms_in_bounds)) in

@@ -14,7 +14,7 @@ use Rattle.year.specs.declared.Year.{Year}
 use Rattle.year.proofs.SumLaws.{fixed_read, sums_long}
 use Rattle.year.proofs.ImbalanceLaws.{term_most, credits_to, squares_to}
 use Rattle.totals.proofs.measure.loads_of.Goals as goal
-use Rattle.totals.proofs.measure.loads_of.Goals.{After-struct_known-1, In-loop-k}
+use Rattle.totals.proofs.measure.loads_of.Goals.{In-loop-k}
 
 -- ---- one term more, whose credits are x: neither sum is past its number
 module _ (y : Year) (sound : Sound y) (k x : ℕ) (h : k < 16) (e : x ≡ fixed_credits y k) where
@@ -35,7 +35,7 @@ few c = omega (arith, c.loop-k-test.true, c.requires)
 
 pub bounds-y-k : goal.bounds-y-k
 bounds-y-k c =
-    omega (arith, few c, sums_long c.args.y c.requires)
+    omega (arith, c.loop-k-test.true, sums_long c.args.y c.requires, c.requires)
 
 -- what the year carries for it
 carried : (c : In-loop-k) → fixed_in c.args.y.sums c.loop-k.k ≡ fixed_credits c.args.y c.loop-k.k
@@ -52,19 +52,19 @@ overflow_add-all c =
     omega (arith, c.loop-k.invariant.1, credits-small c.args.y c.requires c.loop-k.k (fixed_in c.args.y.sums c.loop-k.k) (few i) (carried i))
 
 pub overflow_mul-squares : goal.overflow_mul-squares
-overflow_mul-squares c = omega (arith, mul-le-mul (entry (goal.at.overflow_mul-squares c).After-struct_known-1) (entry (goal.at.overflow_mul-squares c).After-struct_known-1))
+overflow_mul-squares c = omega (arith, mul-le-mul (entry (goal.at.overflow_mul-squares c).In-loop-k) (entry (goal.at.overflow_mul-squares c).In-loop-k))
 
 pub overflow_add-squares : goal.overflow_add-squares
 overflow_add-squares c =
-    let i = (goal.at.overflow_add-squares c).After-struct_known-1 in
+    let i = (goal.at.overflow_add-squares c).In-loop-k in
     omega (arith, c.loop-k.invariant.2, squares-small c.args.y c.requires c.loop-k.k (fixed_in c.args.y.sums c.loop-k.k) (few i) (carried i))
 
 pub loop-k-preserved : goal.loop-k-preserved
 loop-k-preserved c =
     let y = c.args.y in (
       search rules,
-      ap₂ ◌+◌ c.loop-k.invariant.1 (carried (goal.at.loop-k-preserved c).After-struct_known-1) ∙ sym (sum_more c.loop-k.k (fixed_credits y)),
-      ap₂ (λ n x. n + square x) c.loop-k.invariant.2 (carried (goal.at.loop-k-preserved c).After-struct_known-1) ∙ sym (sum_more c.loop-k.k (λ j. square (fixed_credits y j))),
+      ap₂ ◌+◌ c.loop-k.invariant.1 (carried (goal.at.loop-k-preserved c).In-loop-k) ∙ sym (sum_more c.loop-k.k (fixed_credits y)),
+      ap₂ (λ n x. n + square x) c.loop-k.invariant.2 (carried (goal.at.loop-k-preserved c).In-loop-k) ∙ sym (sum_more c.loop-k.k (λ j. square (fixed_credits y j))),
     )
 
 pub returns : goal.returns
