@@ -1,0 +1,29 @@
+-- The loop's invariant: zeros, with the sizes of the first i courses stored.
+use Prim.Native.Nat.{◌≤◌, ◌-◌}
+use mathlib.Core.Path.{◌≡◌, ap, ◌∙◌}
+use native.Mathlib.Omega.{arith}
+use lib.ListN.{replicate}
+use borrow.Author.Rules.{rules}
+use Rattle.theory.proofs.TabLaws.{fill, filling_more}
+use Rattle.packing.specs.Sizes.{size_of, size_in, first_of}
+use Rattle.packing.proofs.ArrayLaws.{first_is, fill_first}
+use Rattle.packing.proofs.sizes.course_sizes.Goals as goal
+
+pub loop-i-init : goal.loop-i-init
+unfolding fill
+loop-i-init c = search rules
+
+pub loop-i-preserved : goal.loop-i-preserved
+loop-i-preserved c =
+    let a = c.args in
+    let i = c.loop-i.i in
+    let f = size_in a.weight.now a.list.now in
+    let size = c.course_size-size.ensures ∙ ap size_of c.course_in.ensures ∙ first_is a.n i f c.loop-i-test.true in
+    (search rules, filling_more 0 64 (first_of a.n f) c.loop-i.r i c.loop-i.invariant.1 _ size)
+
+pub returns : goal.returns
+returns c =
+    let a = c.args in
+    let is : c.loop-i.i ≡ a.n = omega arith in
+    let f = size_in a.weight.now a.list.now in
+    c.loop-i.invariant.1 ∙ ap (fill (first_of a.n f) (replicate 64 0)) is ∙ fill_first 64 a.n f c.requires.0
