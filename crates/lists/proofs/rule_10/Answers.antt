@@ -14,7 +14,7 @@ use Rattle.frame.specs.declared.State.{State}
 use Rattle.frame.proofs.TermsAt.{ends}
 use Rattle.lists.proofs.OverLaws.{TermTurn, fits_10, turn_10}
 use Rattle.lists.proofs.rule_10.Goals as goal
-use Rattle.lists.proofs.rule_10.Goals.{After-term_verdict_10-whole, In-loop-j}
+use Rattle.lists.proofs.rule_10.Goals.{in-Nothing, in_default, After-term_verdict_10-whole, In-loop-j}
 
 -- what the loop's test says: a term of the year, and no plan not found yet
 within : (c : In-loop-j) → c.loop-j.j < c.args.s.terms
@@ -52,7 +52,7 @@ term_verdict_10-whole-requires c =
     fits_10 c.args.weight.now c.args.s c.requires c.loop-j.j (within i) c.loop-j.z c.loop-j.invariant.1 (going i)
 
 pub term_judged-z-requires : goal.term_judged-z-requires
-term_judged-z-requires c = (at (goal.at.term_judged-z-requires c).After-term_verdict_10-whole).ready
+term_judged-z-requires c = let r = (at (goal.at.term_judged-z-requires c).After-term_verdict_10-whole).ready in record { j_lt_terms = r.0; sound = r.1.0; rule_value = r.1.1 }
 
 pub loop-j-smaller : goal.loop-j-smaller
 loop-j-smaller c = let w = within (goal.at.loop-j-smaller c).In-loop-j in search rules
@@ -61,7 +61,7 @@ pub loop-j-preserved : goal.loop-j-preserved
 loop-j-preserved c =
     let w = within (goal.at.loop-j-preserved c).In-loop-j in
     let t = at (goal.at.loop-j-preserved c).After-term_verdict_10-whole in
-    (search rules, ⊎_elim (λ q. q.2 ∙ t.says_nothing q.1.given.1) (λ q. q.2 ∙ q.1.ensures ∙ t.is_judged) c.match-whole.branch)
+    (search rules, elim c.match-whole.branch [ in-Nothing q ↦ q.z-is ∙ t.says_nothing q.in-Nothing.is | in_default q ↦ q.z-is ∙ q.term_judged-z.ensures ∙ t.is_judged ])
 
 pub returns : goal.returns
 returns c =

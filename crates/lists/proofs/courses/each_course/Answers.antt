@@ -14,10 +14,10 @@ use Rattle.frame.specs.State.{held, year_in}
 use Rattle.frame.specs.Verdicts.{list_after}
 use Rattle.lists.proofs.CourseLaws.{state_to, Turn, turn_at}
 use Rattle.lists.proofs.courses.each_course.Goals as goal
-use Rattle.lists.proofs.courses.each_course.Goals.{After-course_in-c, After-course_verdict-arg-1, After-course_verdict-v, After-list-in-loop-i-1, At-loop-i, In_default, Start}
+use Rattle.lists.proofs.courses.each_course.Goals.{in-Stays, in_default, After-course_in-c, After-course_verdict-v, At-loop-i, In_default, Start}
 
 abbrev start : At-loop-i → Start
-start l = l.before.before.before.before
+start l = (goal.at.At-loop-i l).Start
 
 -- what a turn finds
 at : (c : After-course_in-c) → let l = (goal.at.After-course_in-c c).At-loop-i in
@@ -28,10 +28,6 @@ at c =
     let b = start l in
     let a = b.args in
     turn_at a.whole a.weight.now a.s a.j l.loop-i.i l.loop-i.z c.course_in-c.result b.requires.sound b.requires.rule_value b.requires.j_lt_terms c.loop-i-test.true l.loop-i.invariant.1 c.course_in-c.ensures
-
--- a verdict other than to stay
-judged : (c : In_default) → c.course_verdict-v.result ≡ Stays → ⊥
-judged c e = miss (1 ∷ 2 ∷ []) 0 tt (rw e at c.match-v.keys2)
 
 pub loop-i-init : goal.loop-i-init
 unfolding fold
@@ -47,30 +43,30 @@ course_in-c-requires c =
 
 pub course_verdict-v-requires : goal.course_verdict-v-requires
 course_verdict-v-requires c =
-    let l = (goal.at.course_verdict-v-requires c).After-list-in-loop-i-1 in
-    record { j_bound = omega (arith, (start l).requires.sound); weight_bound = omega (arith, (at (goal.at.course_verdict-v-requires c).After-course_verdict-arg-1).p_small) }
+    let l = (goal.at.course_verdict-v-requires c).At-loop-i in
+    record { j_bound = omega (arith, (start l).requires.sound); weight_bound = omega (arith, (at (goal.at.course_verdict-v-requires c).After-course_in-c).p_small) }
 
 pub list_after-after-requires : goal.list_after-after-requires
 list_after-after-requires c =
-    record { j_bound = omega (arith, (start (goal.at.list_after-after-requires c).After-list-in-loop-i-1).requires.sound); j_bound_2 = λ e. (at (goal.at.list_after-after-requires c).After-course_verdict-arg-1).under.is_listed (sym c.course_verdict-v.ensures ∙ e) }
+    record { j_bound = omega (arith, (start (goal.at.list_after-after-requires c).At-loop-i).requires.sound); j_bound_2 = λ e. (at (goal.at.list_after-after-requires c).After-course_in-c).under.is_listed (sym c.course_verdict-v.ensures ∙ e) }
 
 pub changed-next-requires : goal.changed-next-requires
-changed-next-requires c = (at (goal.at.changed-next-requires c).After-course_verdict-arg-1).under.asks
+changed-next-requires c = let asks = (at (goal.at.changed-next-requires c).After-course_in-c).under.asks in record { weight_bound = asks.0; by_index = asks.1 }
 
 pub loop-i-preserved : goal.loop-i-preserved
 loop-i-preserved c =
     let v = (goal.at.loop-i-preserved c).After-course_verdict-v in
-    let o = (goal.at.loop-i-preserved c).After-course_verdict-arg-1 in
-    let a = (start (goal.at.loop-i-preserved c).After-list-in-loop-i-1).args in
+    let o = (goal.at.loop-i-preserved c).After-course_in-c in
+    let a = (start (goal.at.loop-i-preserved c).At-loop-i).args in
     let t = (at o).under in
     let is = sym v.course_verdict-v.ensures in (
       search rules,
-      ⊎_elim
-          (λ q. q.2 ∙ t.stays (is ∙ q.1.given.1))
-          (λ q.
-          let new = q.2.ensures ∙ ap (λ x. list_after x o.course_in-c.result.list a.j) v.course_verdict-v.ensures in
-          q.4 ∙ t.alters (λ e. judged (record { before = v; match = q.0 }) (v.course_verdict-v.ensures ∙ e)) _ new _ q.3.ensures)
-          c.match-v.branch,
+      elim c.match-v.branch [
+        | in-Stays q ↦ q.z-is ∙ t.stays (is ∙ q.in-Stays.is)
+        | in_default q ↦
+          let new = q.list_after-after.ensures ∙ ap (λ x. list_after x o.course_in-c.result.list a.j) v.course_verdict-v.ensures in
+          q.z-is ∙ t.alters (λ e. q.in_default.not-Stays (v.course_verdict-v.ensures ∙ e)) _ new _ q.changed-next.ensures
+      ],
     )
 
 pub returns : goal.returns

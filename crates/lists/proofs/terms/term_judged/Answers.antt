@@ -10,7 +10,7 @@ use Rattle.lists.proofs.terms.term_judged.Goals as goal
 use Rattle.lists.proofs.terms.term_judged.Goals.{In_default}
 
 goes : (c : In_default) (r : ℕ) → c.args.whole ≡ NoPlan r → ⊥
-goes c r q = miss (0 ∷ 1 ∷ 2 ∷ []) 3 tt (rw q at c.in_default.keys2)
+goes c r = c.in_default.not-NoPlan r
 
 pub returns-in-NoPlan : goal.returns-in-NoPlan
 returns-in-NoPlan c =
