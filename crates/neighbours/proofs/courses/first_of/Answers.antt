@@ -1,11 +1,12 @@
 -- The loop's invariant: no course from `start` on and before i has a verdict.
 use Prim.Native.Nat.{ℕ, ◌+◌, ◌-◌, ◌≤◌, ◌<◌}
-use mathlib.Core.Bool.{true}
+use mathlib.Core.Bool.{true, false}
 use mathlib.Core.Logic.{⊎_elim}
 use mathlib.Core.Path.{◌≡◌, sym, ap, subst, ◌∙◌}
 use native.Mathlib.Omega.{arith}
 use native.Mathlib.Decide.{ℕ_discrete}
 use borrow.Author.Rules.{rules}
+use Rattle.rules.specs.declared.Verdict.{Verdict}
 use Rattle.rules.specs.declared.Verdict.TheVariants.{Stays}
 use Rattle.year.specs.Year.{is_open}
 use Rattle.year.specs.declared.Course.{Course}
@@ -14,48 +15,37 @@ use Rattle.neighbours.specs.Opened.{at, open_in}
 use Rattle.neighbours.specs.Verdicts.{verdict_in, verdict_by}
 use Rattle.neighbours.proofs.ColumnLaws.{closed_stays, place_few, some_open, count_few, rest_lent, verdict_is}
 use Rattle.neighbours.proofs.courses.first_of.Goals as goal
-use Rattle.neighbours.proofs.courses.first_of.Goals.{After-course_in-c, After-is_open, After-shared_slice_known-then-is_open-1, After-verdict-v, At-loop-i, Else-is_open, In-loop-i, Start, Then-is_open}
+use Rattle.neighbours.proofs.courses.first_of.Goals.{After-is_open, At-loop-i, In-loop-i, Start, then-is_open+in-Stays, else-is_open}
 
 abbrev start : At-loop-i → Start
 start l = (goal.at.At-loop-i l).Start
 
 -- an open course
-open_at : (c : Then-is_open) → let l = (goal.at.Then-is_open c).At-loop-i in
-    let a = (start l).args in
-    open_in a.weight.now a.list.now a.j l.loop-i.i ≡ true
-open_at c =
-    let a = (start (goal.at.Then-is_open c).At-loop-i).args in
-    sym (ap (λ x. is_open x a.j) c.course_in-c.ensures) ∙ sym c.is_open.ensures ∙ c.if-is_open.true
+open_at : (c : After-is_open) → c.is_open.result ≡ true → open_in c.args.weight.now c.args.list.now c.args.j c.loop-i.i ≡ true
+open_at c o = sym (ap (λ x. is_open x c.args.j) c.course_in-c.ensures) ∙ sym c.is_open.ensures ∙ o
 
-weight-at : (c : After-course_in-c) → let l = (goal.at.After-course_in-c c).At-loop-i in
-    c.course_in-c.result.weight.0 ≡ at (start l).args.weight.now l.loop-i.i
-weight-at c = ap (λ (x : Course). x.weight.0) c.course_in-c.ensures
+weight_at : (c : After-is_open) → c.course_in-c.result.weight.0 ≡ at c.args.weight.now c.loop-i.i
+weight_at c = ap (λ (x : Course). x.weight.0) c.course_in-c.ensures
 
 -- its verdict is the one by its place
-verdict-at : (c : After-verdict-v) → let l = (goal.at.After-verdict-v c).In-loop-i in
-    let a = (start l).args in
-    c.verdict-v.result ≡ verdict_in a.weight.now a.list.now a.n a.j a.range.least.0 a.range.most.0 l.loop-i.i
-verdict-at c =
-    let t = (goal.at.After-verdict-v c).After-shared_slice_known-then-is_open-1 in
-    let l = (goal.at.After-verdict-v c).In-loop-i in
-    let b = start l in
-    let a = b.args in
-    let g = b.requires.gathered in
-    c.verdict-v.ensures
-    ∙ ap (λ w. verdict_by a.upto.now a.count (at a.place.now l.loop-i.i) w a.range.least.0 a.range.most.0) (weight-at (goal.at.After-verdict-v c).After-is_open)
-    ∙ verdict_is a.weight.now a.list.now a.n g.columns a.j a.upto.now a.place.now a.count g.gathers l.loop-i.i t.loop-i-test.true (open_at t)
+verdict_at : (c : After-is_open) (v : Verdict) → c.is_open.result ≡ true
+    → v ≡ verdict_by c.args.upto.now c.args.count (at c.args.place.now c.loop-i.i) c.course_in-c.result.weight.0 c.args.range.least.0 c.args.range.most.0
+    → v ≡ verdict_in c.args.weight.now c.args.list.now c.args.n c.args.j c.args.range.least.0 c.args.range.most.0 c.loop-i.i
+verdict_at c v o e =
+    let a = c.args in
+    let g = c.requires.gathered in
+    e
+    ∙ ap (λ w. verdict_by a.upto.now a.count (at a.place.now c.loop-i.i) w a.range.least.0 a.range.most.0) (weight_at c)
+    ∙ verdict_is a.weight.now a.list.now a.n g.columns a.j a.upto.now a.place.now a.count g.gathers c.loop-i.i c.loop-i-test.true (open_at c o)
     a.range.least.0 a.range.most.0
 
 -- one that is not open has none
-closed_at : (c : Else-is_open) → let l = (goal.at.Else-is_open c).At-loop-i in
-    let a = (start l).args in
-    verdict_in a.weight.now a.list.now a.n a.j a.range.least.0 a.range.most.0 l.loop-i.i ≡ Stays
-closed_at c =
-    let l = (goal.at.Else-is_open c).At-loop-i in
-    let b = start l in
-    let a = b.args in
-    closed_stays a.weight.now a.list.now a.n b.requires.gathered.columns a.j a.range.least.0 a.range.most.0 l.loop-i.i
-    (sym (ap (λ x. is_open x a.j) c.course_in-c.ensures) ∙ sym c.is_open.ensures ∙ c.if-is_open.false)
+closed_at : (c : After-is_open) → c.is_open.result ≡ false
+    → verdict_in c.args.weight.now c.args.list.now c.args.n c.args.j c.args.range.least.0 c.args.range.most.0 c.loop-i.i ≡ Stays
+closed_at c o =
+    let a = c.args in
+    closed_stays a.weight.now a.list.now a.n c.requires.gathered.columns a.j a.range.least.0 a.range.most.0 c.loop-i.i
+    (sym (ap (λ x. is_open x a.j) c.course_in-c.ensures) ∙ sym c.is_open.ensures ∙ o)
 
 -- where course i has no verdict, none before the next has
 passed : (c : In-loop-i) → let l = (goal.at.In-loop-i c).At-loop-i in
@@ -91,33 +81,35 @@ bounds-place-i c =
 
 pub verdict-v-requires : goal.verdict-v-requires
 verdict-v-requires c =
-    let t = (goal.at.verdict-v-requires c).After-shared_slice_known-then-is_open-1 in
-    let l = (goal.at.verdict-v-requires c).In-loop-i in
-    let b = start l in
-    let a = b.args in
-    let g = b.requires.gathered in
-    let opens = open_at t in
+    let t = (goal.at.verdict-v-requires c).After-is_open in
+    let a = c.args in
+    let g = c.requires.gathered in
+    let opens = open_at t c.if-is_open.true in
     let taken = c.loop-i-test.true in
-    let lent = rest_lent a.weight.now a.list.now a.n g.columns a.j a.upto.now a.place.now a.count g.gathers l.loop-i.i taken opens in record { lent = subst (Lent a.upto.now (a.count - 1) (at a.place.now l.loop-i.i)) (sym (weight-at (goal.at.verdict-v-requires c).After-is_open)) lent; n_nonzero = (
-        some_open a.weight.now a.list.now a.n g.columns a.j a.upto.now a.place.now a.count g.gathers l.loop-i.i taken opens,
+    let lent = rest_lent a.weight.now a.list.now a.n g.columns a.j a.upto.now a.place.now a.count g.gathers c.loop-i.i taken opens in
+    record {
+      lent = subst (Lent a.upto.now (a.count - 1) (at a.place.now c.loop-i.i)) (sym (weight_at t)) lent;
+      n_nonzero = (
+        some_open a.weight.now a.list.now a.n g.columns a.j a.upto.now a.place.now a.count g.gathers c.loop-i.i taken opens,
         count_few a.weight.now a.list.now a.n g.columns a.j a.upto.now a.place.now a.count g.gathers,
         g.range,
         g.small,
-      ) }
+      );
+    }
 
 pub returns-in_default : goal.returns-in_default
 returns-in_default c =
-    let v = (goal.at.returns-in_default c).After-verdict-v in
-    let taken = v.loop-i-test.true in
-    record { from = c.loop-i.invariant.0; upto = omega (arith, taken); before = c.loop-i.invariant.2; here = λ h. verdict-at v }
+    let taken = c.loop-i-test.true in
+    record { from = c.loop-i.invariant.0; upto = omega (arith, taken); before = c.loop-i.invariant.2; here = λ h. verdict_at (goal.at.returns-in_default c).After-is_open c.verdict-v.result c.if-is_open.true c.verdict-v.ensures }
 
 pub loop-i-preserved : goal.loop-i-preserved
 loop-i-preserved c =
-    ⊎_elim
-    (λ q. passed (goal.at.loop-i-preserved c).In-loop-i
-    (sym (verdict-at (record { before = record { before = record { before = (goal.at.loop-i-preserved c).After-is_open; if1 = q.0 }; shared-slice-known5 = q.1 }; verdict = q.2 })) ∙ q.4.given.1))
-    (λ q. passed (goal.at.loop-i-preserved c).In-loop-i (closed_at (record { before = (goal.at.loop-i-preserved c).After-is_open; if1 = q })))
-    c.if-is_open.branch
+    let t = (goal.at.loop-i-preserved c).After-is_open in
+    let i = (goal.at.loop-i-preserved c).In-loop-i in
+    elim c.if-is_open.branch [
+      | then-is_open+in-Stays q ↦ passed i (sym (verdict_at t q.verdict-v.result q.if-is_open.true q.verdict-v.ensures) ∙ q.in-Stays.is)
+      | else-is_open q ↦ passed i (closed_at t q.if-is_open.false)
+    ]
 
 pub returns : goal.returns
 returns c =

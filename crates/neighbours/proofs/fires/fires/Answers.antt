@@ -10,7 +10,7 @@ use Rattle.theory.proofs.TestLaws.{any_of}
 use Rattle.neighbours.specs.Lightest.{left_out, neighbours_by, fires_by}
 use Rattle.neighbours.proofs.FiresLaws.{readable, within, some_are, none_below_0, none_behind, no_gap, none_from, none_more}
 use Rattle.neighbours.proofs.fires.fires.Goals as goal
-use Rattle.neighbours.proofs.fires.fires.Goals.{After-lightest-2, After-lightest-before, After-lightest-in-loop-k2, At-loop-k2, Else-n-range, Start}
+use Rattle.neighbours.proofs.fires.fires.Goals.{then-before-width+else-fires_with, else-before-width, After-lightest-2, After-lightest-before, After-lightest-in-loop-k2, At-loop-k2, Else-n-range, Start}
 
 -- the entry
 abbrev start : At-loop-k2 → Start
@@ -153,11 +153,11 @@ loop-k2-preserved c =
     let l = (goal.at.loop-k2-preserved c).At-loop-k2 in
     let b = start l in
     let a = b.args in
-    let fails =
-    ⊎_elim
-    (λ w. sym w.1.ensures ∙ w.2.left)
-    (λ w. no_gap b.requires.lent.rising a.range.least.0 a.range.most.0 l.loop-k2.k2 b.requires.n_bound.1 (omega (arith, w.left, (low t).0, (next f).1)))
-    c.if-before-width.branch in
+    let fails : test b l.loop-k2.k2 ≡ false =
+    elim c.if-before-width.branch [
+      | then-before-width+else-fires_with w ↦ sym w.fires_with.ensures ∙ w.if-fires_with.false
+      | else-before-width w ↦ no_gap b.requires.lent.rising a.range.least.0 a.range.most.0 l.loop-k2.k2 b.requires.n_bound.1 (omega (arith, w.if-before-width.false, (low t).0, (next f).1))
+    ] in
     (omega (arith, t.loop-k2-test.true), none_more l.loop-k2.k2 (test b) l.loop-k2.invariant.1 fails)
 
 pub returns : goal.returns

@@ -18,7 +18,7 @@ course_in-requires c =
     (o.weighed (c.loop-k.k - 1) (omega arith), o.listed (c.loop-k.k - 1) (omega arith))
 
 pub returns-then-is_open : goal.returns-then-is_open
-returns-then-is_open c = c.loop.invariant
+returns-then-is_open c = c.loop-k.invariant
 
 pub loop-k-preserved : goal.loop-k-preserved
 loop-k-preserved c =
@@ -28,4 +28,4 @@ loop-k-preserved c =
     (omega arith, none_from (open_in a.weight.now a.list.now a.j) a.order.now a.n c.loop-k.k c.loop-k.invariant.1 shut)
 
 pub returns : goal.returns
-returns c = c.loop.invariant
+returns c = c.loop-k.invariant

@@ -7,7 +7,7 @@ use Rattle.neighbours.specs.Opened.{at, opened, Ordered, Gathers}
 use Rattle.neighbours.specs.Verdicts.{set_in}
 use Rattle.neighbours.proofs.ColumnLaws.{ordered, calm_says, quiet_says, count_few, gathered_calm, gathered_rising, gathered_small, gathered_quiet, all_lent, all_fires}
 use Rattle.neighbours.proofs.terms.of_open.Goals as goal
-use Rattle.neighbours.proofs.terms.of_open.Goals.{After-fires, After-gathered-g, After-upto-1}
+use Rattle.neighbours.proofs.terms.of_open.Goals.{After-fires, After-gathered-g}
 
 gathers : (c : After-gathered-g) → let a = c.args in
     Gathers (at a.weight.now) (set_in a.weight.now a.list.now a.n a.j) c.gathered-g.result
@@ -22,7 +22,7 @@ gathered-g-requires c =
 
 pub is_calm-requires : goal.is_calm-requires
 is_calm-requires c =
-    let g = (goal.at.is_calm-requires c).After-upto-1 in
+    let g = (goal.at.is_calm-requires c).After-gathered-g in
     let a = c.args in
     let r = g.gathered-g.result in
     let few = count_few a.weight.now a.list.now a.n c.requires.columns a.j r.upto r.place r.count (gathers g) in
@@ -30,7 +30,7 @@ is_calm-requires c =
 
 pub returns-then-is_calm : goal.returns-then-is_calm
 returns-then-is_calm c =
-    let g = (goal.at.returns-then-is_calm c).After-upto-1 in
+    let g = (goal.at.returns-then-is_calm c).After-gathered-g in
     let a = c.args in
     let r = g.gathered-g.result in
     let width = c.width.result.0 in
@@ -42,16 +42,16 @@ returns-then-is_calm c =
 
 pub fires-requires : goal.fires-requires
 fires-requires c =
-    let g = (goal.at.fires-requires c).After-upto-1 in
+    let g = (goal.at.fires-requires c).After-gathered-g in
     let a = c.args in
     let r = g.gathered-g.result in record { lent = all_lent a.weight.now a.list.now a.n c.requires.columns a.j r.upto r.place r.count (gathers g); n_bound = (count_few a.weight.now a.list.now a.n c.requires.columns a.j r.upto r.place r.count (gathers g), c.requires.least_le_most.0, c.requires.least_le_most.1) }
 
 -- the test of the sums is that of the open courses
-all : (c : After-fires) → let g = (goal.at.After-fires c).After-upto-1 in
+all : (c : After-fires) → let g = (goal.at.After-fires c).After-gathered-g in
     let a = g.args in
     c.fires.result ≡ fires (at a.weight.now) (set_in a.weight.now a.list.now a.n a.j) a.range.least.0 a.range.most.0
 all c =
-    let g = (goal.at.After-fires c).After-upto-1 in
+    let g = (goal.at.After-fires c).After-gathered-g in
     let a = c.args in
     let r = g.gathered-g.result in
     c.fires.ensures
@@ -62,7 +62,7 @@ returns-then-fires c = sym (all (goal.at.returns-then-fires c).After-fires) ∙ 
 
 pub may_fire-requires : goal.may_fire-requires
 may_fire-requires c =
-    let g = (goal.at.may_fire-requires c).After-upto-1 in
+    let g = (goal.at.may_fire-requires c).After-gathered-g in
     let a = c.args in
     let r = g.gathered-g.result in
     let few = count_few a.weight.now a.list.now a.n c.requires.columns a.j r.upto r.place r.count (gathers g) in record { n_in_bounds = (
@@ -77,7 +77,7 @@ returns-then-may_fire c =
 
 pub returns : goal.returns
 returns c =
-    let g = (goal.at.returns c).After-upto-1 in
+    let g = (goal.at.returns c).After-gathered-g in
     let a = c.args in
     let r = g.gathered-g.result in (
       sym (all (goal.at.returns c).After-fires) ∙ c.if-fires.false,

@@ -11,7 +11,7 @@ use Rattle.neighbours.specs.Opened.{Ordered}
 use Rattle.neighbours.proofs.ColumnLaws.{ordered}
 use Rattle.neighbours.proofs.TermLaws.{last_heaviest, right_of, light_says}
 use Rattle.neighbours.proofs.terms.says.Goals as goal
-use Rattle.neighbours.proofs.terms.says.Goals.{After-range_of-range, After-shared_slice_known-1, After-struct_known-3-1, Else-t-u, Start}
+use Rattle.neighbours.proofs.terms.says.Goals.{After-range_of-range, Else-t-u, Start}
 
 in_order : (s : Start) → let a = s.args in Ordered a.weight.now a.list.now a.rising.now a.n
 in_order s =
@@ -45,12 +45,12 @@ returns-then-u-eq0 c =
 
 pub last_open-last-requires : goal.last_open-last-requires
 last_open-last-requires c =
-    let s = (goal.at.last_open-last-requires c).After-shared_slice_known-1 in
+    let s = (goal.at.last_open-last-requires c).Start in
     record { ordered = in_order s; j_bound = s.requires.rising_value.1 }
 
 pub heaviest-heaviest-requires : goal.heaviest-heaviest-requires
 heaviest-heaviest-requires c =
-    let s = (goal.at.heaviest-heaviest-requires c).After-shared_slice_known-1 in
+    let s = (goal.at.heaviest-heaviest-requires c).Start in
     let o = in_order s in
     let l = c.last_open-last.ensures.0 in
     record { n_in_bounds = (omega (arith, o.long, l), omega (arith, o.few, l)); by_index = λ r h. o.weighed r (omega (arith, l)) }
@@ -61,7 +61,7 @@ width-requires c = range (goal.at.width-requires c).After-range_of-range
 pub returns-then-heaviest-range : goal.returns-then-heaviest-range
 returns-then-heaviest-range c =
     let r = (goal.at.returns-then-heaviest-range c).After-range_of-range in
-    let o = (goal.at.returns-then-heaviest-range c).After-struct_known-3-1 in
+    let o = (goal.at.returns-then-heaviest-range c).Else-t-u in
     let a = c.args in
     let b = r.range_of-range.result in
     let top = c.heaviest-heaviest.result.0 in
@@ -83,7 +83,7 @@ of_open-requires c =
 
 pub returns : goal.returns
 returns c =
-    let o = (goal.at.returns c).After-struct_known-3-1 in
+    let o = (goal.at.returns c).Else-t-u in
     let a = c.args in
     let b = c.range_of-range.result in
     right_of a.weight.now a.list.now a.n c.requires.columns a.j a.t a.u.fixed.0 b.least.0 b.most.0 (fits o) c.range_of-range.ensures.0 c.range_of-range.ensures.1

@@ -8,6 +8,7 @@ use Rattle.theory.specs.Largest.{largest}
 use Rattle.theory.proofs.LargestLaws.{largest_more}
 use Rattle.frame.specs.Bounds.{high_in}
 use Rattle.packing.proofs.bins.room.Goals as goal
+use Rattle.packing.proofs.bins.room.Goals.{then-most-x, else-most-x}
 
 pub loop-k-init : goal.loop-k-init
 unfolding largest
@@ -16,7 +17,7 @@ loop-k-init c = search rules
 pub loop-k-preserved : goal.loop-k-preserved
 loop-k-preserved c =
     let more = largest_more c.loop-k.k (high_in c.args.term) in
-    (search rules, ⊎_elim (λ w. omega arith) (λ w. omega arith) c.if-most-x.branch)
+    (search rules, elim c.if-most-x.branch [ then-most-x w ↦ omega arith | else-most-x w ↦ omega arith ])
 
 pub returns : goal.returns
 returns c =

@@ -7,7 +7,7 @@ use native.Mathlib.Omega.{arith}
 use lib.ListN.{length, get_or}
 use Rattle.packing.proofs.ThresholdLaws.{over_is, Passed, none_passed, all_passed, one_exceeds, enough, rest_from, one_tried, one_passed, new_size, old_size}
 use Rattle.packing.proofs.thresholds.some_course_exceeds.Goals as goal
-use Rattle.packing.proofs.thresholds.some_course_exceeds.Goals.{In-loop-r, Then-last-t}
+use Rattle.packing.proofs.thresholds.some_course_exceeds.Goals.{then-last-t+else-exceeds, else-last-t, In-loop-r, Then-last-t}
 
 pub total-rest-requires : goal.total-rest-requires
 total-rest-requires c =
@@ -80,17 +80,17 @@ loop-r-preserved c =
     let rest = c.loop-r.rest.0 in
     let passed = Passed a.a.now a.b.now a.rising.now a.c.0 a.limit.0 (c.loop-r.r + 1) in
     let is : rest - t + t ≡ rest = omega (arith, left k) in
-    let next : passed c.if-last-t.new.0 (rest - t) =
-    ⊎_elim
-    (λ w.
-    let new = new_size last t (a.c.0 / 2) w.0.taken in
-    let over = over_is a.a.now a.b.now a.c.0 a.limit.0 t _ _ false w.1.ensures.0 w.2.ensures w.3.left in
-    subst (λ x. passed x.0 (rest - t)) (sym w.4)
-    (one_tried a.a.now a.b.now a.rising.now a.c.0 a.limit.0 c.requires.rising c.loop-r.r last rest c.loop-r.invariant.0 k.loop-r-test.true new.0 over (rest - t) is))
-    (λ w.
-    subst (λ x. passed x.0 (rest - t)) (sym w.1)
-    (one_passed a.a.now a.b.now a.rising.now a.c.0 a.limit.0 c.requires.rising c.loop-r.r last rest c.loop-r.invariant.0 k.loop-r-test.true (old_size last t (a.c.0 / 2) w.0.left) (rest - t) is))
-    c.if-last-t.branch in
+    let next : passed c.if-last-t.last.0 (rest - t) =
+    elim c.if-last-t.branch [
+      | then-last-t+else-exceeds w ↦
+      let new = new_size last t (a.c.0 / 2) w.if-last-t.true in
+      let over = over_is a.a.now a.b.now a.c.0 a.limit.0 t _ _ false w.counted-x.ensures.0 w.exceeds.ensures w.if-exceeds.false in
+      subst (λ x. passed x.0 (rest - t)) (sym w.last-is)
+      (one_tried a.a.now a.b.now a.rising.now a.c.0 a.limit.0 c.requires.rising c.loop-r.r last rest c.loop-r.invariant.0 k.loop-r-test.true new.0 over (rest - t) is)
+      | else-last-t w ↦
+      subst (λ x. passed x.0 (rest - t)) (sym w.last-is)
+      (one_passed a.a.now a.b.now a.rising.now a.c.0 a.limit.0 c.requires.rising c.loop-r.r last rest c.loop-r.invariant.0 k.loop-r-test.true (old_size last t (a.c.0 / 2) w.if-last-t.false) (rest - t) is)
+    ] in
     (next, omega arith)
 
 pub returns : goal.returns

@@ -12,6 +12,7 @@ use Rattle.packing.specs.Thresholds.{term_exceeds}
 use Rattle.packing.proofs.SizeLaws.{none_more}
 use Rattle.packing.proofs.ThresholdLaws.{over_is, tried_over, tried_within, not_tried}
 use Rattle.packing.proofs.thresholds.some_term_exceeds.Goals as goal
+use Rattle.packing.proofs.thresholds.some_term_exceeds.Goals.{then-t-c+else-exceeds, else-t-c}
 
 pub loop-k-init : goal.loop-k-init
 unfolding any
@@ -30,10 +31,11 @@ pub loop-k-preserved : goal.loop-k-preserved
 loop-k-preserved c =
     let a = c.args in
     let s = get_or a.b.now c.loop-k.k 0 in
-    let fails = ⊎_elim
-    (λ w. tried_within a.a.now a.b.now a.c.0 a.limit.0 s (over_is a.a.now a.b.now a.c.0 a.limit.0 s _ _ false w.1.ensures.0 w.2.ensures w.3.left))
-    (λ w. not_tried a.a.now a.b.now a.c.0 a.limit.0 s w.left)
-    c.if-t-c.branch in
+    let fails : term_exceeds a.a.now a.b.now a.c.0 a.limit.0 c.loop-k.k ≡ false =
+    elim c.if-t-c.branch [
+      | then-t-c+else-exceeds w ↦ tried_within a.a.now a.b.now a.c.0 a.limit.0 s (over_is a.a.now a.b.now a.c.0 a.limit.0 s _ _ false w.share_sum-x.ensures.0 w.exceeds.ensures w.if-exceeds.false)
+      | else-t-c w ↦ not_tried a.a.now a.b.now a.c.0 a.limit.0 s w.if-t-c.false
+    ] in
     (search rules, none_more c.loop-k.k (term_exceeds a.a.now a.b.now a.c.0 a.limit.0) c.loop-k.invariant.1 fails)
 
 pub returns : goal.returns
