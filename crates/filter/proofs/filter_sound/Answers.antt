@@ -1,0 +1,9 @@
+-- A sound year is not refused.
+use borrow.Author.Rules.{rules}
+use Rattle.year.proofs.SoundLaws.{sound_to}
+use Rattle.filter.specs.Filter.{filter_of}
+use Rattle.filter.proofs.filter_sound.Goals as goal
+
+pub returns : goal.returns
+unfolding filter_of
+returns c = simp (sound_to c.args.y c.requires) c.run.ensures
