@@ -14,7 +14,7 @@ use Rattle.year.proofs.PlanCount.{each_plan_once}
 use Rattle.records.specs.Examples.{year_e_read}
 use Rattle.display.specs.Listing.{listing_of, listed_of, listed_in}
 use Rattle.display.specs.Numbers.{listed_number, listed_length}
-use Rattle.display.specs.Examples.{year_e}
+use Rattle.display.specs.Examples.{year_e_lem}
 use Rattle.display.specs.declared.Listed.{Listed}
 use Rattle.display.specs.declared.Listed.TheVariants.{Done, Short}
 use Rattle.display.proofs.LongestLaws.{longest, listing_whole}
@@ -82,4 +82,4 @@ pub plans_counted : PlansCounted
 plans_counted = each_plan_once
 
 pub year_e_whole : YearE
-year_e_whole = record { reads = year_e_read; lists = year_e; plans = two_plans.0; two_plans = two_plans.1; each_once = each_plan_once year_e }
+year_e_whole = record { reads = year_e_read; lists = year_e_lem; plans = two_plans.0; two_plans = two_plans.1; each_once = each_plan_once year_e }

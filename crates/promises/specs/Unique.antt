@@ -2,7 +2,7 @@
 -- included. No contract is repeated here: one that is weakened in the source makes its line false.
 use Rattle.std.specs.Prelude.{ℕ, List, ◌≡◌}
 use contract.Lifetimes.{Lfts}
-use Rattle.std.specs.Borrow.{Bor}
+use Rattle.std.specs.Borrow.{Bor, MutBor}
 use Rattle.year.proofs.Year.empty.Reads as empty-call
 use Rattle.year.proofs.Year.by_hand.Reads as by-hand-call
 use Rattle.year.proofs.Year.summed.Reads as summed-call
@@ -41,13 +41,13 @@ abbrev pub result : {R E : Type 0} → R → E → R
 result r e = r
 
 -- the result and the bytes of the list that was lent as the second argument, as the third, or as the fifth
-abbrev pub and_second : {R B D : Type 0} → R → B × (Bor (List ℕ) × D) → R × List ℕ
+abbrev pub and_second : {R B D : Type 0} → R → B × (MutBor (List ℕ) × D) → R × List ℕ
 and_second r e = (r, e.1.0.now)
 
-abbrev pub and_third : {R B C D : Type 0} → R → B × (C × (Bor (List ℕ) × D)) → R × List ℕ
+abbrev pub and_third : {R B C D : Type 0} → R → B × (C × (MutBor (List ℕ) × D)) → R × List ℕ
 and_third r e = (r, e.1.1.0.now)
 
-abbrev pub and_fifth : {R B C D E F : Type 0} → R → B × (C × (D × (E × (Bor (List ℕ) × F)))) → R × List ℕ
+abbrev pub and_fifth : {R B C D E F : Type 0} → R → B × (C × (D × (E × (MutBor (List ℕ) × F)))) → R × List ℕ
 and_fifth r e = (r, e.1.1.1.1.0.now)
 
 -- the bytes of a result that is a part of a lent list
