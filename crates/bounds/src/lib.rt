@@ -1,5 +1,6 @@
 // Rules 1, 2, 4 and 5: a term's bounds against its own sums, and against the other terms' bounds, over the terms of the year.
 #![tactic(auto)]
+
 mod terms;
 
 ghost use Rattle.std.specs.Prelude.{◌≡◌};

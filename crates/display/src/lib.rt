@@ -1,5 +1,6 @@
 // The listing of a list of records: the answer of its filtering and the filtered year as text, or why there is none.
 #![tactic(auto)]
+
 ghost use Rattle.std.specs.Prelude.{◌≡◌, ◌+◌, ◌<◌, ◌≤◌, length, take};
 ghost use Rattle.text.specs.Put.{Put};
 ghost use Rattle.year.specs.Sound.{Sound};

@@ -1,5 +1,6 @@
 // Filtering: rounds until one alters nothing, and the answer.
 #![tactic(auto)]
+
 mod rounds;
 
 ghost use Rattle.std.specs.Prelude.{◌≡◌};

@@ -1,6 +1,7 @@
 // What the code of every rule stands on: a year on its way through a round, its bounds by themselves, the outcome at a term, and
 // a course under a verdict.
 #![tactic(auto)]
+
 pub mod verdicts;
 
 ghost use Rattle.std.specs.Prelude.{◌≡◌};

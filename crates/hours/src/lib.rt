@@ -1,5 +1,6 @@
 // The registrar's hours list: joined to a list of terms it gives a year. Records of 16 bytes, hours and no credits.
 #![tactic(auto)]
+
 mod entries;
 mod lists;
 

@@ -1,5 +1,6 @@
 // Rules 3 and 10: they go through the courses of each term and strike the term from lists, or leave it alone there.
 #![tactic(auto)]
+
 mod courses;
 mod heaviest;
 mod terms;

@@ -1,6 +1,7 @@
 // Rule 12: neighbouring sums. It goes through the open courses of each term and strikes the term from lists, or leaves it alone
 // there.
 #![tactic(auto)]
+
 mod courses;
 mod fires;
 mod gathering;

@@ -1,5 +1,6 @@
 // Rule 11: the sizes of what is to be packed against the room of all terms.
 #![tactic(auto)]
+
 mod bins;
 mod sizes;
 mod thresholds;

@@ -1,5 +1,6 @@
 // Years as records of 16 bytes: any byte string is read, or refused at its first fault; a sound year is written into a lent buffer.
 #![tactic(auto)]
+
 mod blocks;
 pub mod bytes;
 pub mod entries;

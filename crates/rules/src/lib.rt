@@ -1,5 +1,6 @@
 // What the twelve rules decide, as definitions and code share it.
 #![tactic(auto)]
+
 use year::{Courses, Credits};
 
 // What a rule says of a course and a term: the list stays, the term is struck, or the term alone is left.

@@ -1,5 +1,6 @@
 // Text into a lent buffer: bytes, numbers in decimal, lines, and terms with commas. Each is written from a place on; the result is the place behind it.
 #![tactic(auto)]
+
 ghost use Rattle.std.specs.Prelude.{◌≡◌, ◌+◌, ◌<◌, ◌≤◌, length};
 ghost use Rattle.text.specs.Text.{digit_of, ten_of, places_of, decimal_of, numbered_of, numbers_of, row_of, line_of, terms_of};
 ghost use Rattle.text.specs.Put.{Put, comma_of, piece_of};

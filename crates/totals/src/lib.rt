@@ -1,5 +1,6 @@
 // What is counted or measured over a year beside the sums that it carries.
 #![tactic(auto)]
+
 pub mod measure;
 
 ghost use Rattle.std.specs.Prelude.{◌≡◌, ◌≤◌};

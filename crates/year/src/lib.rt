@@ -1,5 +1,6 @@
 // What a year is: its terms, its courses, the sums of its terms, its limits; what is sound; the doors; the narrowings.
 #![tactic(auto)]
+
 mod bar;
 pub mod by_hand;
 mod checks;

@@ -92,7 +92,7 @@ loop-j-preserved c =
       search rules,
       elim c.match-whole.branch [
         | in-Nothing q ↦ q.z-is ∙ nothing_turn a.weight.now a.s b.requires.sound l.loop-j.j w l.loop-j.z l.loop-j.invariant.1 (going t)
-          (subst (SaysOf (year_in a.weight.now l.loop-j.z) l.loop-j.j) q.in-Nothing.is (said e))
+            (subst (SaysOf (year_in a.weight.now l.loop-j.z) l.loop-j.j) q.in-Nothing.is (said e))
         | in_default q ↦ q.z-is ∙ judged_turn a.weight.now a.s b.requires.sound l.loop-j.j w l.loop-j.z l.loop-j.invariant.1 (going t) q.term_judged-z.result q.term_judged-z.ensures
       ],
     )

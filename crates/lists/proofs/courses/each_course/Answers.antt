@@ -64,8 +64,8 @@ loop-i-preserved c =
       elim c.match-v.branch [
         | in-Stays q ↦ q.z-is ∙ t.stays (is ∙ q.in-Stays.is)
         | in_default q ↦
-          let new = q.list_after-after.ensures ∙ ap (λ x. list_after x o.course_in-c.result.list a.j) v.course_verdict-v.ensures in
-          q.z-is ∙ t.alters (λ e. q.in_default.not-Stays (v.course_verdict-v.ensures ∙ e)) _ new _ q.changed-next.ensures
+            let new = q.list_after-after.ensures ∙ ap (λ x. list_after x o.course_in-c.result.list a.j) v.course_verdict-v.ensures in
+            q.z-is ∙ t.alters (λ e. q.in_default.not-Stays (v.course_verdict-v.ensures ∙ e)) _ new _ q.changed-next.ensures
       ],
     )
 

@@ -62,11 +62,15 @@ may_fire-requires c =
     let b = start (before g) in
     let a = b.args in
     let r = g.gathered-g.result in
-    let few = count_few (w b) a.s.list a.s.courses (columns b) a.j r.upto r.place r.count (gathers g) in record { n_in_bounds = (
+    let few = count_few (w b) a.s.list a.s.courses (columns b) a.j r.upto r.place r.count (gathers g) in record {
+      n_in_bounds = (
         omega (arith, (gathers g).upto_long, few),
         few,
         gathered_small (w b) a.s.list a.s.courses (columns b) a.j r.upto r.place r.count (gathers g),
-      ); rising = gathered_rising (w b) a.s.list a.s.courses (columns b) a.j r.upto r.place r.count (gathers g); least_le_most = ranged (before g) }
+      );
+      rising = gathered_rising (w b) a.s.list a.s.courses (columns b) a.j r.upto r.place r.count (gathers g);
+      least_le_most = ranged (before g);
+    }
 
 pub first_of-requires : goal.first_of-requires
 first_of-requires c =

@@ -65,11 +65,15 @@ may_fire-requires c =
     let g = (goal.at.may_fire-requires c).After-gathered-g in
     let a = c.args in
     let r = g.gathered-g.result in
-    let few = count_few a.weight.now a.list.now a.n c.requires.columns a.j r.upto r.place r.count (gathers g) in record { n_in_bounds = (
+    let few = count_few a.weight.now a.list.now a.n c.requires.columns a.j r.upto r.place r.count (gathers g) in record {
+      n_in_bounds = (
         omega (arith, (gathers g).upto_long, few),
         few,
         gathered_small a.weight.now a.list.now a.n c.requires.columns a.j r.upto r.place r.count (gathers g),
-      ); rising = gathered_rising a.weight.now a.list.now a.n c.requires.columns a.j r.upto r.place r.count (gathers g); least_le_most = c.requires.least_le_most }
+      );
+      rising = gathered_rising a.weight.now a.list.now a.n c.requires.columns a.j r.upto r.place r.count (gathers g);
+      least_le_most = c.requires.least_le_most;
+    }
 
 pub returns-then-may_fire : goal.returns-then-may_fire
 returns-then-may_fire c =

@@ -41,10 +41,14 @@ new c =
 
 pub counted-x-requires : goal.counted-x-requires
 counted-x-requires c =
-    let a = c.args in record { a_len_bound = (c.requires.few_courses, c.requires.room, omega (arith, new c, c.requires.room), c.requires.light); by_index = c.requires.top; rest_value = (
-          rest_from a.a.now a.b.now a.rising.now a.c.0 a.limit.0 c.requires.rising c.loop-r.r c.loop-r.last.0 c.loop-r.rest.0 c.loop-r.invariant.0 c.loop-r-test.true (new c).0 (new c).1,
-          c.loop-r.invariant.1,
-        ) }
+    let a = c.args in record {
+      a_len_bound = (c.requires.few_courses, c.requires.room, omega (arith, new c, c.requires.room), c.requires.light);
+      by_index = c.requires.top;
+      rest_value = (
+        rest_from a.a.now a.b.now a.rising.now a.c.0 a.limit.0 c.requires.rising c.loop-r.r c.loop-r.last.0 c.loop-r.rest.0 c.loop-r.invariant.0 c.loop-r-test.true (new c).0 (new c).1,
+        c.loop-r.invariant.1,
+      );
+    }
 
 pub exceeds-requires : goal.exceeds-requires
 exceeds-requires c =
@@ -83,13 +87,13 @@ loop-r-preserved c =
     let next : passed c.if-last-t.last.0 (rest - t) =
     elim c.if-last-t.branch [
       | then-last-t+else-exceeds w ↦
-      let new = new_size last t (a.c.0 / 2) w.if-last-t.true in
-      let over = over_is a.a.now a.b.now a.c.0 a.limit.0 t _ _ false w.counted-x.ensures.0 w.exceeds.ensures w.if-exceeds.false in
-      subst (λ x. passed x.0 (rest - t)) (sym w.last-is)
-      (one_tried a.a.now a.b.now a.rising.now a.c.0 a.limit.0 c.requires.rising c.loop-r.r last rest c.loop-r.invariant.0 k.loop-r-test.true new.0 over (rest - t) is)
+          let new = new_size last t (a.c.0 / 2) w.if-last-t.true in
+          let over = over_is a.a.now a.b.now a.c.0 a.limit.0 t _ _ false w.counted-x.ensures.0 w.exceeds.ensures w.if-exceeds.false in
+          subst (λ x. passed x.0 (rest - t)) (sym w.last-is)
+          (one_tried a.a.now a.b.now a.rising.now a.c.0 a.limit.0 c.requires.rising c.loop-r.r last rest c.loop-r.invariant.0 k.loop-r-test.true new.0 over (rest - t) is)
       | else-last-t w ↦
-      subst (λ x. passed x.0 (rest - t)) (sym w.last-is)
-      (one_passed a.a.now a.b.now a.rising.now a.c.0 a.limit.0 c.requires.rising c.loop-r.r last rest c.loop-r.invariant.0 k.loop-r-test.true (old_size last t (a.c.0 / 2) w.if-last-t.false) (rest - t) is)
+          subst (λ x. passed x.0 (rest - t)) (sym w.last-is)
+          (one_passed a.a.now a.b.now a.rising.now a.c.0 a.limit.0 c.requires.rising c.loop-r.r last rest c.loop-r.invariant.0 k.loop-r-test.true (old_size last t (a.c.0 / 2) w.if-last-t.false) (rest - t) is)
     ] in
     (next, omega arith)
 

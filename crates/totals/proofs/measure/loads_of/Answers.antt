@@ -20,8 +20,10 @@ use Rattle.totals.proofs.measure.loads_of.Goals.{In-loop-k}
 module _ (y : Year) (sound : Sound y) (k x : ℕ) (h : k < 16) (e : x ≡ fixed_credits y k) where
   entry-small : x ≤ 64000
   entry-small = omega (arith, e, term_most y sound k)
+
   credits-small : sum k (fixed_credits y) + x < 4294967296
   credits-small = omega (arith, credits_to y sound k, entry-small)
+
   squares-small : sum k (λ j. square (fixed_credits y j)) + square x < 18446744073709551616
   squares-small = omega (arith, squares_to y sound k, mul-le-mul entry-small entry-small)
 

@@ -29,8 +29,7 @@ course_in-requires c = (omega (arith, small (goal.at.course_in-requires c).In-lo
 
 pub walk_step-z-requires : goal.walk_step-z-requires
 walk_step-z-requires c =
-    let t = (goal.at.walk_step-z-requires c).In-loop-k in
-    (
+    let t = (goal.at.walk_step-z-requires c).In-loop-k in (
       search rules,
       omega (arith, on t),
       omega (arith, on t),
