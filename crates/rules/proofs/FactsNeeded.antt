@@ -3,16 +3,14 @@
 use Prim.Native.Nat.{ℕ, ◌<◌}
 use mathlib.Core.Bool.{Bool, true, false, ◌&&◌, not, true≢false}
 use mathlib.Core.List.{List, [], ◌∷◌}
-use mathlib.Core.Path.{◌≡◌, refl, sym, ap, subst, ◌∙◌}
+use mathlib.Core.Path.{◌≡◌, refl, sym, ap, ◌∙◌}
 use native.Mathlib.Omega.{arith}
 use lib.Dec.{eqb, ltb}
-use lib.ListN.{get_or}
-use borrow.Author.Tests.{eqb-true, eqb-false, ltb-true, ltb-false, eq-eqb}
-use Rattle.theory.specs.Sum.{sum}
+use borrow.Author.Tests.{eqb-true, eqb-false, ltb-true}
 use Rattle.theory.specs.Tests.{all}
 use Rattle.theory.proofs.TestLaws.{all_at, and_true}
 use Rattle.year.specs.Year.{term_of, course_of}
-use Rattle.year.specs.Bound.{beyond, Keeps}
+use Rattle.year.specs.Bound.{beyond}
 use Rattle.year.specs.Plans.{Placing, put_in, placing_of}
 use Rattle.year.specs.Examples.{year_e}
 use Rattle.year.specs.declared.Quantity.{Quantity}
@@ -21,7 +19,7 @@ use Rattle.year.specs.declared.Side.{Side}
 use Rattle.year.specs.declared.Side.TheVariants.{Low, High}
 use Rattle.year.specs.declared.Year.{Year}
 use Rattle.rules.specs.Step.{Change, moves, strikes, fixes, crosses, fails}
-use Rattle.rules.specs.Facts.{Fact, inside, outside, keeps, Meets, Into, Basis, Rests, MeetsAll, Concludes, Suffice, own, besides, every, never, the_fixed, the_unlisted, the_bound, ◌with◌}
+use Rattle.rules.specs.Facts.{Fact, inside, outside, keeps, Meets, Basis, Rests, MeetsAll, Concludes, Suffice, own, besides, every, never, the_fixed, the_unlisted, the_bound, ◌with◌}
 use Rattle.rules.specs.FactAt.{Found, nothing, just, pair_at, bound_at, found_at}
 use Rattle.rules.specs.Examples.{seven, beside, fixed_and_open}
 use Rattle.rules.specs.ReasonExamples.{slack, tight}

@@ -1,5 +1,4 @@
 -- `join`: the terms' refusal, or the hours behind their year.
-use borrow.Author.Rules.{rules}
 use mathlib.Core.Path.{◌∙◌}
 use Rattle.hours.proofs.JoinLaws as law
 use Rattle.hours.proofs.join.Goals as goal

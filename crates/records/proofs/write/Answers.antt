@@ -2,8 +2,6 @@
 use mathlib.Core.Bool.{true}
 use mathlib.Core.Path.{◌≡◌, ◌∙◌, sym}
 use native.Mathlib.Omega.{arith}
-use borrow.Author.Rules.{rules}
-use borrow.Author.Tests.{not-true, not-false}
 use Rattle.year.specs.Sound.{is_sound, Sound}
 use Rattle.year.proofs.SoundLaws.{sound_of}
 use Rattle.records.proofs.WriteLaws as law

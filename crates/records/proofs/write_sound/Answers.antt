@@ -3,7 +3,6 @@ use Prim.Native.Nat.{ℕ, ◌*◌}
 use mathlib.Core.List.{List}
 use mathlib.Core.Path.{◌∙◌, ap}
 use native.Mathlib.Omega.{arith}
-use borrow.Author.Rules.{rules}
 use Rattle.records.specs.Writing.{course_block, joined}
 use Rattle.records.specs.Laid.{laid}
 use Rattle.records.proofs.WriteLaws.{laid_all}

@@ -1,5 +1,4 @@
 -- The loop's invariant: the total is the weight of the first i courses, at most 1,000 each.
-use Prim.Native.Nat.{◌≤◌, ◌-◌}
 use mathlib.Core.Path.{◌≡◌, ap, ◌∙◌}
 use native.Mathlib.Omega.{arith}
 use borrow.Author.Rules.{rules}

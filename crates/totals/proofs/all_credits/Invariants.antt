@@ -1,13 +1,8 @@
 -- The loop's invariant: the total is the weight of the first i courses, at most 1,000 each.
 use Prim.Native.Nat.{◌≤◌, ◌-◌}
-use mathlib.Core.Path.{◌≡◌, ap, ◌∙◌}
-use native.Mathlib.Omega.{arith}
-use borrow.Author.Rules.{rules}
+use mathlib.Core.Path.{◌≡◌}
 use Rattle.theory.specs.Sum.{sum}
-use Rattle.theory.proofs.SumLaws.{sum_more}
 use Rattle.year.specs.Year.{weight}
-use Rattle.year.specs.Sums.{all_credits}
-use Rattle.year.proofs.SumLaws.{weights_to}
 use Rattle.totals.proofs.all_credits.Given as goal
 
 abbrev pub invariant-loop-i : goal.invariant-loop-i

@@ -1,6 +1,5 @@
 -- The sums that a sound year carries say which courses are open.
 use mathlib.Core.Path.{◌∙◌}
-use borrow.Author.Rules.{rules}
 use Rattle.year.proofs.OnePlacing.{none_open_is}
 use Rattle.totals.proofs.all_placed.Goals as goal
 

@@ -1,13 +1,8 @@
 -- The loop's invariant: the flag says whether the course is fixed in one of the first k terms.
 use Prim.Native.Nat.{◌≤◌, ◌-◌}
-use mathlib.Core.Path.{◌≡◌, sym, ap, ap₂, ◌∙◌}
-use mathlib.Core.Bool.{◌||◌}
-use native.Mathlib.Omega.{arith}
-use borrow.Author.Rules.{rules}
+use mathlib.Core.Path.{◌≡◌}
 use Rattle.theory.specs.Tests.{any}
-use Rattle.theory.proofs.TestLaws.{any_more}
 use Rattle.year.specs.Year.{is_fixed}
-use Rattle.year.specs.Sums.{is_placed}
 use Rattle.totals.proofs.is_placed.Given as goal
 
 abbrev pub invariant-loop-k : goal.invariant-loop-k

@@ -1,5 +1,4 @@
 -- The loop's invariant: the flag says whether no course is open in any of the first k terms.
-use Prim.Native.Nat.{◌≤◌, ◌-◌}
 use mathlib.Core.Path.{◌≡◌, sym, ap, ◌∙◌}
 use mathlib.Core.Bool.{◌&&◌}
 use lib.Dec.{eqb}

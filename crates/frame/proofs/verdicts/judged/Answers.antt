@@ -1,9 +1,6 @@
 -- A course that stays leaves the state as it is; of any other the new list and the sums are stored.
-use mathlib.Core.List.{[], ◌∷◌}
 use mathlib.Core.Path.{◌≡◌, refl}
 use native.Mathlib.Omega.{arith}
-use types.Run.{miss}
-use borrow.Author.Rules.{rules}
 use Rattle.year.specs.Year.{course_at}
 use Rattle.year.specs.declared.Course.{Course}
 use Rattle.rules.specs.Step.{joined, judged}

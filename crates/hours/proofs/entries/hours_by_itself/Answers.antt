@@ -1,5 +1,4 @@
 -- `hours_by_itself`: the edition's byte chooses as the definition does.
-use borrow.Author.Rules.{rules}
 use borrow.Author.Tests.{ne_eqb}
 use Rattle.hours.specs.Entries.{hours_by_itself}
 use Rattle.hours.proofs.entries.hours_by_itself.Goals as goal

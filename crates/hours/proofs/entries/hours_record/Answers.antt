@@ -1,7 +1,6 @@
 -- `hours_record`: the letter, the number, then the record by itself.
-use borrow.Author.Rules.{rules}
 use mathlib.Core.Path.{◌∙◌, sym}
-use borrow.Author.Tests.{eq-eqb, ne_eqb, not-true, not-false}
+use borrow.Author.Tests.{eq-eqb, ne_eqb}
 use Rattle.hours.specs.Entries.{hours_record}
 use Rattle.hours.proofs.entries.hours_record.Goals as goal
 

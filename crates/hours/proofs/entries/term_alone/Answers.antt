@@ -1,5 +1,4 @@
 -- `term_alone`: the letter, then the term as in reading.
-use borrow.Author.Rules.{rules}
 use mathlib.Core.Path.{◌∙◌}
 use borrow.Author.Tests.{eq-eqb, ne_eqb}
 use Rattle.hours.specs.Entries.{term_alone}

@@ -1,6 +1,6 @@
 -- `read_hours`: the year held is what the definition has after the same records; a refusal stays to the end of the list.
-use Prim.Native.Nat.{◌/◌, ◌-◌, ◌≤◌, ◌<◌}
-use mathlib.Core.Path.{◌≡◌, ◌∙◌, ap, sym}
+use Prim.Native.Nat.{◌/◌, ◌<◌}
+use mathlib.Core.Path.{◌∙◌, ap, sym}
 use native.Mathlib.Omega.{arith}
 use native.Mathlib.Numerals.{add-one}
 use lib.ListN.{length}

@@ -1,5 +1,4 @@
 -- `with_hours`: the answer under its list, beside the year.
-use borrow.Author.Rules.{rules}
 use mathlib.Core.Path.{ap, ◌∙◌}
 use Rattle.records.specs.declared.Received.{Received}
 use Rattle.hours.specs.Joining.{in_hours}

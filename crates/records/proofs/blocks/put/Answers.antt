@@ -1,5 +1,5 @@
 -- `put`: the bytes passed so far are laid into the buffer.
-use Prim.Native.Nat.{ℕ, ◌≤◌, ◌<◌, ◌-◌, ◌+◌}
+use Prim.Native.Nat.{ℕ, ◌<◌, ◌+◌}
 use mathlib.Core.List.{List}
 use mathlib.Core.Path.{◌≡◌, ◌∙◌, ap, sym, refl}
 use native.Mathlib.Omega.{arith}

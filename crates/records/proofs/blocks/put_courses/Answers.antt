@@ -1,5 +1,5 @@
 -- `put_courses`: the blocks of the courses passed so far are laid behind the terms.
-use Prim.Native.Nat.{ℕ, ◌≤◌, ◌-◌, ◌+◌, ◌*◌}
+use Prim.Native.Nat.{ℕ, ◌+◌, ◌*◌}
 use mathlib.Core.List.{List}
 use mathlib.Core.Path.{◌≡◌, ◌∙◌, ap, ap₂, refl}
 use native.Mathlib.Omega.{arith}

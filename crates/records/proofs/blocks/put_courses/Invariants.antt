@@ -1,14 +1,9 @@
 -- `put_courses`: the blocks of the courses passed so far are laid behind the terms.
-use Prim.Native.Nat.{ℕ, ◌≤◌, ◌-◌, ◌+◌, ◌*◌}
-use mathlib.Core.List.{List}
-use mathlib.Core.Path.{◌≡◌, ◌∙◌, ap, ap₂, refl}
-use native.Mathlib.Omega.{arith}
-use borrow.Author.Rules.{rules}
+use Prim.Native.Nat.{◌≤◌, ◌-◌, ◌*◌}
+use mathlib.Core.Path.{◌≡◌}
 use lib.ListN.{length}
-use Rattle.year.specs.Sound.{Sound}
-use Rattle.records.specs.Writing.{course_bytes, course_block, joined}
+use Rattle.records.specs.Writing.{course_block, joined}
 use Rattle.records.specs.Laid.{laid}
-use Rattle.records.proofs.LayLaws as law
 use Rattle.records.proofs.blocks.put_courses.Given as goal
 
 abbrev pub invariant-loop-i : goal.invariant-loop-i

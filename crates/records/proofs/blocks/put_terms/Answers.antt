@@ -1,5 +1,5 @@
 -- `put_terms`: the blocks of the terms passed so far are laid over the front of the buffer.
-use Prim.Native.Nat.{ℕ, ◌≤◌, ◌-◌, ◌+◌, ◌*◌}
+use Prim.Native.Nat.{ℕ, ◌+◌, ◌*◌}
 use mathlib.Core.List.{List}
 use mathlib.Core.Path.{◌≡◌, ◌∙◌, ap, ap₂, refl}
 use native.Mathlib.Omega.{arith}

@@ -1,14 +1,9 @@
 -- `put_terms`: the blocks of the terms passed so far are laid over the front of the buffer.
-use Prim.Native.Nat.{ℕ, ◌≤◌, ◌-◌, ◌+◌, ◌*◌}
-use mathlib.Core.List.{List}
-use mathlib.Core.Path.{◌≡◌, ◌∙◌, ap, ap₂, refl}
-use native.Mathlib.Omega.{arith}
-use borrow.Author.Rules.{rules}
+use Prim.Native.Nat.{◌≤◌, ◌-◌}
+use mathlib.Core.Path.{◌≡◌}
 use lib.ListN.{length}
-use Rattle.year.specs.Sound.{Sound}
 use Rattle.records.specs.Writing.{term_block, joined}
 use Rattle.records.specs.Laid.{laid}
-use Rattle.records.proofs.LayLaws as law
 use Rattle.records.proofs.blocks.put_terms.Given as goal
 
 abbrev pub invariant-loop-j : goal.invariant-loop-j

@@ -1,11 +1,7 @@
 -- `blank_from`: the bytes passed so far are zero.
-use Prim.Native.Nat.{ℕ, ◌≤◌, ◌-◌}
-use mathlib.Core.Path.{◌≡◌, ◌∙◌, ap, sym}
-use mathlib.Core.Bool.{Bool, ◌&&◌}
-use native.Mathlib.Omega.{arith}
-use borrow.Author.Rules.{rules}
+use Prim.Native.Nat.{◌≤◌, ◌-◌}
+use mathlib.Core.Path.{◌≡◌}
 use Rattle.theory.specs.Tests.{all}
-use Rattle.theory.proofs.TestLaws.{all_more}
 use Rattle.records.specs.Bytes.{blank_at}
 use Rattle.records.proofs.bytes.blank_from.Given as goal
 

@@ -1,5 +1,4 @@
 -- `course_by`: one test for a good course, then the definition's faults in their order.
-use borrow.Author.Rules.{rules}
 use Rattle.records.specs.Reading.{bad_weight, bad_list, course_by}
 use Rattle.records.proofs.EntryLaws.{one_test, left_zeros}
 use Rattle.records.proofs.entries.course_by.Goals as goal

@@ -1,5 +1,4 @@
 -- `course_by_itself`: what the callees read is what the definition reads.
-use borrow.Author.Rules.{rules}
 use Rattle.records.proofs.entries.course_by_itself.Goals as goal
 
 pub returns : goal.returns

@@ -1,7 +1,5 @@
 -- `read_course`: the number, then the course by itself.
-use borrow.Author.Rules.{rules}
 use mathlib.Core.Path.{◌∙◌, sym}
-use borrow.Author.Tests.{not-true, not-false}
 use Rattle.records.specs.Reading.{course_record}
 use Rattle.records.proofs.entries.read_course.Goals as goal
 

@@ -1,7 +1,5 @@
 -- `read_term`: the number, then the term by itself.
-use borrow.Author.Rules.{rules}
 use mathlib.Core.Path.{◌∙◌, sym}
-use borrow.Author.Tests.{not-true, not-false}
 use Rattle.records.specs.Reading.{term_record}
 use Rattle.records.proofs.entries.read_term.Goals as goal
 

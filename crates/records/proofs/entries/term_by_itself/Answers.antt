@@ -1,5 +1,4 @@
 -- `term_by_itself`: one test for a good record, then the definition's faults in their order.
-use borrow.Author.Rules.{rules}
 use mathlib.Core.Path.{◌∙◌, sym}
 use mathlib.Core.Bool.{◌||◌}
 use lib.Dec.{ltb}

@@ -1,14 +1,8 @@
 -- The loop's invariant: the flag says whether the first k terms are within their bounds. What the year carries is what is fixed in it.
-use Prim.Native.Nat.{◌≤◌, ◌<◌, ◌-◌}
-use mathlib.Core.Path.{◌≡◌, sym, ap, ap₂, ◌∙◌}
-use mathlib.Core.Bool.{◌&&◌}
-use native.Mathlib.Omega.{arith}
-use borrow.Author.Rules.{rules}
+use Prim.Native.Nat.{◌≤◌, ◌-◌}
+use mathlib.Core.Path.{◌≡◌}
 use Rattle.theory.specs.Tests.{all}
-use Rattle.theory.proofs.TestLaws.{all_more}
-use Rattle.year.specs.Year.{term_at}
-use Rattle.year.specs.Imbalance.{fits, fits_at}
-use Rattle.year.proofs.SumLaws.{fixed_read, placed_read, sums_long}
+use Rattle.year.specs.Imbalance.{fits_at}
 use Rattle.totals.proofs.measure.all_fit.Given as goal
 
 abbrev pub invariant-loop-k : goal.invariant-loop-k

@@ -1,7 +1,5 @@
 -- A year that is not sound is refused; otherwise it is measured.
 use mathlib.Core.Path.{sym, ◌∙◌}
-use borrow.Author.Rules.{rules}
-use borrow.Author.Tests.{not-true, not-false}
 use Rattle.year.proofs.SoundLaws.{sound_of}
 use Rattle.year.proofs.ImbalanceLaws.{imbalance_unsound}
 use Rattle.totals.proofs.measure.imbalance.Goals as goal

@@ -2,8 +2,6 @@
 use mathlib.Core.Bool.{true}
 use mathlib.Core.Path.{◌≡◌, sym, ap, ◌∙◌}
 use native.Mathlib.Omega.{arith}
-use borrow.Author.Rules.{rules}
-use borrow.Author.Tests.{not-true, not-false}
 use Rattle.theory.specs.Sum.{sum}
 use Rattle.theory.proofs.PairLaws.{squares_most, square_least}
 use Rattle.year.specs.Sums.{fixed_credits, all_credits, all_placed}

@@ -4,11 +4,10 @@ use Prim.Native.Nat.{◌<◌}
 use mathlib.Core.Bool.{true}
 use mathlib.Core.Path.{◌≡◌, sym, ◌∙◌}
 use native.Mathlib.Omega.{arith}
-use borrow.Author.Rules.{rules}
-use borrow.Author.Tests.{not-true, not-false, eq-eqb, ne_eqb}
+use borrow.Author.Tests.{eq-eqb, ne_eqb}
 use Rattle.year.specs.Year.{course_at, lists}
 use Rattle.year.specs.Narrow.{bar_of, barring}
-use Rattle.year.proofs.CheckLaws.{named_there, named_in, named_done, named_refused, no_refusal}
+use Rattle.year.proofs.CheckLaws.{named_there, named_in, named_done, named_refused}
 use Rattle.year.proofs.Year.bar.Goals as goal
 use Rattle.year.proofs.Year.bar.Goals.{Else-not-lists, In-Done}
 

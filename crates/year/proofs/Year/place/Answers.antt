@@ -2,10 +2,8 @@
 use Prim.Native.Nat.{◌<◌}
 use mathlib.Core.Path.{sym, ◌∙◌}
 use native.Mathlib.Omega.{arith}
-use borrow.Author.Rules.{rules}
-use borrow.Author.Tests.{not-true, not-false}
 use Rattle.year.specs.Narrow.{place_of, placing}
-use Rattle.year.proofs.CheckLaws.{named_there, named_in, named_done, named_refused, no_refusal}
+use Rattle.year.proofs.CheckLaws.{named_there, named_in, named_done, named_refused}
 use Rattle.year.proofs.Year.place.Goals as goal
 use Rattle.year.proofs.Year.place.Goals.{In-Done}
 

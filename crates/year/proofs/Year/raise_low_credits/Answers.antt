@@ -1,11 +1,10 @@
 -- The term that is read and its bounds made tighter are the definition's; a refusal leaves the year as it was.
 use mathlib.Core.Path.{refl, ◌∙◌}
 use lib.Dec.{ltb}
-use borrow.Author.Rules.{rules}
 use Rattle.year.specs.Narrow.{tighten_of}
 use Rattle.year.specs.declared.Quantity.TheVariants.{Credits}
 use Rattle.year.proofs.BoundLaws.{within_raise}
-use Rattle.year.proofs.CheckLaws.{bound_in, bound_done, bound_refused, no_refusal}
+use Rattle.year.proofs.CheckLaws.{bound_in, bound_done, bound_refused}
 use Rattle.year.proofs.Year.raise_low_credits.Goals as goal
 
 pub bounded-self-requires : goal.bounded-self-requires

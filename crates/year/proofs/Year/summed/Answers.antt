@@ -1,7 +1,6 @@
 -- The test is the definition's; what passes it has courses within the sizes.
 use mathlib.Core.Bool.{true}
 use mathlib.Core.Path.{◌≡◌, sym, ◌∙◌}
-use borrow.Author.Rules.{rules}
 use Rattle.year.specs.Sound.{sound_but_sums}
 use Rattle.year.specs.ByHand.{summed_of}
 use Rattle.year.proofs.SoundLaws.{summed_sound}

@@ -1,11 +1,9 @@
 -- The loop's invariant: both columns are filled with the first i entries. Filled whole, they are those of all courses.
 use Prim.Native.Nat.{ℕ, ◌≤◌, ◌-◌}
-use mathlib.Core.List.{List, map}
-use mathlib.Core.Path.{◌≡◌, refl, sym, ap, ◌∙◌}
-use native.Mathlib.Omega.{arith}
-use lib.ListN.{length, get_or, replicate}
-use borrow.Author.Rules.{rules}
-use Rattle.theory.proofs.TabLaws.{fill, filling_long, filling_more, filling_ends, tab_get_or, map_tab}
+use mathlib.Core.List.{List}
+use mathlib.Core.Path.{◌≡◌}
+use lib.ListN.{get_or}
+use Rattle.theory.proofs.TabLaws.{fill}
 use Rattle.year.specs.Year.{zero_course}
 use Rattle.year.specs.declared.Course.{Course}
 use Rattle.year.proofs.by_hand.unsummed.Given as goal

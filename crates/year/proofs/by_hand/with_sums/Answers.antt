@@ -1,8 +1,7 @@
 -- The sums over the two columns are the year's.
-use mathlib.Core.Path.{◌≡◌, sym, ◌∙◌}
+use mathlib.Core.Path.{◌≡◌}
 use native.Mathlib.Omega.{arith}
-use lib.ListN.{length, length-map}
-use borrow.Author.Rules.{rules}
+use lib.ListN.{length}
 use Rattle.year.specs.Sums.{fixed_credits, open_credits, fixed_count, open_count, sums_at}
 use Rattle.year.proofs.by_hand.with_sums.Goals as goal
 

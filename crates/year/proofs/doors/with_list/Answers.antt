@@ -3,7 +3,6 @@ use Prim.Native.Nat.{◌<◌}
 use mathlib.Core.Path.{◌∙◌}
 use native.Mathlib.Omega.{arith}
 use lib.ListN.{set}
-use borrow.Author.Rules.{rules}
 use Rattle.year.proofs.ChangeLaws.{change_asks, change_gives}
 use Rattle.year.proofs.doors.with_list.Goals as goal
 use Rattle.year.proofs.doors.with_list.Goals.{Start}

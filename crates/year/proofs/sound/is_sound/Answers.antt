@@ -1,7 +1,6 @@
 -- Sound but for the sums, and then by them. That the array of sums has its length is what holding a year tells.
 use mathlib.Core.Path.{◌≡◌, sym, ◌∙◌}
-use lib.ListN.{length, length-map}
-use borrow.Author.Rules.{rules}
+use lib.ListN.{length}
 use borrow.Author.Tests.{eq-eqb}
 use Rattle.year.specs.Sound.{is_sound}
 use Rattle.year.proofs.sound.is_sound.Goals as goal

@@ -1,8 +1,7 @@
 -- Each early return is a clause of the test that fails. That the arrays have their lengths is what holding a year tells.
-use mathlib.Core.Path.{◌≡◌, sym, ap₂, ◌∙◌}
+use mathlib.Core.Path.{◌≡◌, ap₂}
 use mathlib.Core.Bool.{◌&&◌, true}
-use lib.ListN.{length, length-map}
-use borrow.Author.Rules.{rules}
+use lib.ListN.{length}
 use borrow.Author.Tests.{lt-leb, le-leb, eq-eqb}
 use Rattle.year.specs.Sound.{sound_but_sums, shaped}
 use Rattle.year.proofs.sound.is_sound_but_sums.Goals as goal

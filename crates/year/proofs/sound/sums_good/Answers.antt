@@ -1,7 +1,6 @@
 -- The sums over the two columns are the year's, and each is held against the one that it carries.
 use mathlib.Core.Path.{ap, ◌∙◌}
 use native.Mathlib.Omega.{arith}
-use borrow.Author.Rules.{rules}
 use Rattle.theory.proofs.TestLaws.{all_same}
 use Rattle.theory.proofs.TabLaws.{get_or_tab}
 use Rattle.year.specs.Sums.{fixed_credits, open_credits, fixed_count, open_count, no_sums, sums_in, sums_at}

@@ -1,11 +1,7 @@
 -- The loop's invariant: the flag says whether the first j entries are good.
 use Prim.Native.Nat.{◌≤◌, ◌-◌}
-use mathlib.Core.Path.{◌≡◌, sym, ap, ap₂, ◌∙◌}
-use mathlib.Core.Bool.{◌&&◌}
-use native.Mathlib.Omega.{arith}
-use borrow.Author.Rules.{rules}
+use mathlib.Core.Path.{◌≡◌}
 use Rattle.theory.specs.Tests.{all}
-use Rattle.theory.proofs.TestLaws.{all_more}
 use Rattle.year.specs.Sound.{term_good}
 use Rattle.year.proofs.sound.terms_good.Given as goal
 

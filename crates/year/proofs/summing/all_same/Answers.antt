@@ -1,15 +1,10 @@
 -- The loop's invariant: the flag says whether the first k terms have the same sums.
-use Prim.Native.Nat.{ℕ, ◌≤◌, ◌-◌}
-use mathlib.Core.Bool.{Bool, ◌&&◌}
-use mathlib.Core.List.{List}
+use mathlib.Core.Bool.{◌&&◌}
 use mathlib.Core.Path.{◌≡◌, sym, ap, ap₂, ◌∙◌}
 use native.Mathlib.Omega.{arith}
 use borrow.Author.Rules.{rules}
 use Rattle.theory.specs.Tests.{all}
 use Rattle.theory.proofs.TestLaws.{all_more}
-use Rattle.year.specs.Sums.{sums_in}
-use Rattle.year.specs.Sound.{sums_same}
-use Rattle.year.specs.declared.Sums.{Sums}
 use Rattle.year.proofs.summing.all_same.Invariants.{sameAt}
 use Rattle.year.proofs.summing.all_same.Goals as goal
 

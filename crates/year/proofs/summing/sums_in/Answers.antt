@@ -1,5 +1,5 @@
 -- The loop's invariant: the sums over the first i courses, of those fixed in the term and of those that list it.
-use Prim.Native.Nat.{ℕ, ◌*◌, ◌-◌, ◌^◌, ◌≤◌, ◌<◌}
+use Prim.Native.Nat.{ℕ, ◌*◌, ◌^◌, ◌≤◌, ◌<◌}
 use mathlib.Core.Path.{◌≡◌, refl, ap, ◌∙◌}
 use native.Mathlib.Omega.{arith}
 use lib.Dec.{eqb}
@@ -8,7 +8,7 @@ use borrow.Author.Rules.{rules}
 use Rattle.theory.specs.Sum.{pick, sum}
 use Rattle.theory.proofs.SumLaws.{pick_le}
 use Rattle.year.specs.SumsOf.{sums_to}
-use Rattle.year.proofs.ListedLaws.{SoFar, so_far_small, so_far_sums, so_far_more}
+use Rattle.year.proofs.ListedLaws.{so_far_small, so_far_sums, so_far_more}
 use Rattle.year.proofs.summing.sums_in.Goals as goal
 use Rattle.year.proofs.summing.sums_in.Goals.{At-loop-i, In-loop-i}
 

@@ -1,14 +1,6 @@
 -- The loop's invariant: the sums over the first i courses, of those fixed in the term and of those that list it.
-use Prim.Native.Nat.{ℕ, ◌*◌, ◌-◌, ◌^◌, ◌≤◌, ◌<◌}
-use mathlib.Core.Path.{◌≡◌, refl, ap, ◌∙◌}
-use native.Mathlib.Omega.{arith}
-use lib.Dec.{eqb}
-use lib.ListN.{get_or}
-use borrow.Author.Rules.{rules}
-use Rattle.theory.specs.Sum.{pick, sum}
-use Rattle.theory.proofs.SumLaws.{pick_le}
-use Rattle.year.specs.SumsOf.{sums_to}
-use Rattle.year.proofs.ListedLaws.{SoFar, so_far_small, so_far_sums, so_far_more}
+use Prim.Native.Nat.{◌-◌, ◌≤◌}
+use Rattle.year.proofs.ListedLaws.{SoFar}
 use Rattle.year.proofs.summing.sums_in.Given as goal
 
 abbrev pub invariant-loop-i : goal.invariant-loop-i

@@ -1,5 +1,4 @@
 -- The loop's invariant: the array at the start, filled with the sums of the first j terms. What the others hold, nothing, is right already.
-use Prim.Native.Nat.{◌≤◌, ◌-◌}
 use mathlib.Core.Path.{◌≡◌, sym, ap, ◌∙◌}
 use native.Mathlib.Omega.{arith}
 use lib.ListN.{replicate, length-replicate, get_or-replicate}

@@ -1,13 +1,8 @@
 -- The loop's invariant: the array at the start, filled with the sums of the first j terms. What the others hold, nothing, is right already.
 use Prim.Native.Nat.{◌≤◌, ◌-◌}
-use mathlib.Core.Path.{◌≡◌, sym, ap, ◌∙◌}
-use native.Mathlib.Omega.{arith}
-use lib.ListN.{replicate, length-replicate, get_or-replicate}
-use borrow.Author.Rules.{rules}
-use Rattle.theory.proofs.TabLaws.{fill, fill_front, filling_long, filling_more}
-use Rattle.year.specs.Sums.{no_sums}
+use mathlib.Core.Path.{◌≡◌}
+use Rattle.theory.proofs.TabLaws.{fill}
 use Rattle.year.specs.SumsOf.{sums_to}
-use Rattle.year.proofs.ListedLaws.{sums_past}
 use Rattle.year.proofs.summing.sums_over.Given as goal
 
 abbrev pub invariant-loop-j : goal.invariant-loop-j

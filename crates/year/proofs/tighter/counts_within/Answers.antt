@@ -1,5 +1,4 @@
 -- The two bounds are the larger and the smaller of the definition; made at once, they are its two moves.
-use borrow.Author.Rules.{rules}
 use Rattle.year.specs.declared.Quantity.TheVariants.{Counts}
 use Rattle.year.proofs.BoundLaws.{at_once_lem}
 use Rattle.year.proofs.tighter.counts_within.Goals as goal
