@@ -1,7 +1,9 @@
-// The library for other languages: functions on byte slices and numbers, each with its answer packed into one number.
+// The calls for other languages: functions on byte slices and numbers, each with its answer packed into one number. `boundary_c` exports
+// them under these names.
 // A list that does not read is refused as by reading, two lists that do not join as by joining; then a buffer shorter than what is to be
 // written by 9; then the call's own answer.
 #![tactic(auto)]
+
 pub mod codes;
 mod into;
 
@@ -12,8 +14,7 @@ use hours::Joining;
 use records::Reading;
 
 // Reads a list.
-#[unsafe(no_mangle)]
-pub extern "C" fn turfsteeple_read(list: &[u8]) -> u64
+pub fn turfsteeple_read(list: &[u8]) -> u64
     ensures { result ≡ read_code list.now }
 {
     let got = records::read(list);
@@ -22,8 +23,7 @@ pub extern "C" fn turfsteeple_read(list: &[u8]) -> u64
 }
 
 // Filters the year of a list into a lent list.
-#[unsafe(no_mangle)]
-pub extern "C" fn turfsteeple_filter(list: &[u8], out: &mut [u8]) -> u64
+pub fn turfsteeple_filter(list: &[u8], out: &mut [u8]) -> u64
     ensures value { result ≡ filter_code list.now (length out.old) }
     ensures out_after { out.new ≡ filter_out list.now out.old }
 {
@@ -42,8 +42,7 @@ pub extern "C" fn turfsteeple_filter(list: &[u8], out: &mut [u8]) -> u64
 }
 
 // Narrows the year of a list into a lent list.
-#[unsafe(no_mangle)]
-pub extern "C" fn turfsteeple_narrow(list: &[u8], kind: u32, a: u32, b: u32, out: &mut [u8]) -> u64
+pub fn turfsteeple_narrow(list: &[u8], kind: u32, a: u32, b: u32, out: &mut [u8]) -> u64
     ensures value { result ≡ narrow_code list.now kind a b (length out.old) }
     ensures out_after { out.new ≡ narrow_out list.now kind a b out.old }
 {
@@ -62,8 +61,7 @@ pub extern "C" fn turfsteeple_narrow(list: &[u8], kind: u32, a: u32, b: u32, out
 }
 
 // The imbalance of the year of a list.
-#[unsafe(no_mangle)]
-pub extern "C" fn turfsteeple_imbalance(list: &[u8]) -> u64
+pub fn turfsteeple_imbalance(list: &[u8]) -> u64
     ensures { result ≡ imbalance_code list.now }
 {
     let got = records::read(list);
@@ -78,8 +76,7 @@ pub extern "C" fn turfsteeple_imbalance(list: &[u8]) -> u64
 }
 
 // Joins a list of terms and an hours list, and writes the year into a lent list.
-#[unsafe(no_mangle)]
-pub extern "C" fn turfsteeple_join(terms: &[u8], hours: &[u8], out: &mut [u8]) -> u64
+pub fn turfsteeple_join(terms: &[u8], hours: &[u8], out: &mut [u8]) -> u64
     ensures value { result ≡ join_code terms.now hours.now (length out.old) }
     ensures out_after { out.new ≡ join_out terms.now hours.now out.old }
 {

@@ -1,5 +1,7 @@
-// For measuring alone: a filtering as a Rattle program asks for it, its year tested for soundness first, behind a C call.
+// For measuring alone: a filtering as a Rattle program asks for it, its year tested for soundness first, as a call of the boundary.
+// `tested_c` exports it.
 #![tactic(auto)]
+
 ghost use Rattle.std.specs.Prelude.{◌≡◌, ◌+◌, ◌*◌, ◌≤◌, length};
 ghost use Rattle.year.specs.Sound.{Sound};
 ghost use Rattle.filter.specs.Filter.{filter_of};
@@ -37,8 +39,7 @@ fn filter_into(y: Year, out: &mut [u8]) -> u64
 }
 
 // As `turfsteeple_filter`: filters the year of a list into a lent list.
-#[unsafe(no_mangle)]
-pub extern "C" fn tested_filter(list: &[u8], out: &mut [u8]) -> u64
+pub fn tested_filter(list: &[u8], out: &mut [u8]) -> u64
     ensures value { result ≡ filter_code list.now (length out.old) }
     ensures out_after { out.new ≡ filter_out list.now out.old }
 {
