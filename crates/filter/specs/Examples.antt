@@ -188,7 +188,8 @@ rule_11_above_half = refl
 -- trap 1: rule 6 on a year that rule 4 has not passed
 trap_1 :
     FindsNone
-    (year_of (term_of 2 2 0 1 ∷ term_of 0 2 3 3 ∷ term_of 0 2 0 1 ∷ []) (course_of 1 3 ∷ course_of 1 5 ∷ course_of 1 4 ∷ course_of 2 3 ∷ []))
+    (year_of (term_of 2 2 0 1 ∷ term_of 0 2 3 3 ∷ term_of 0 2 0 1 ∷ []) (course_of 1 3 ∷ course_of 1 5 ∷ course_of 1 4
+    ∷ course_of 2 3 ∷ []))
     4 1
 unfolding computing
 trap_1 = refl
@@ -350,7 +351,8 @@ fresh_spares = refl
 -- ties by lower number: with ties by higher number in rule 6, 7, 8 or 9 it is that rule that finds no plan, in round 1
 ties :
     FindsNone
-    (year_of (term_of 0 2 1 1 ∷ term_of 2 3 0 2 ∷ term_of 3 4 0 2 ∷ []) (course_of 2 5 ∷ course_of 2 6 ∷ course_of 2 7 ∷ course_of 1 2 ∷ []))
+    (year_of (term_of 0 2 1 1 ∷ term_of 2 3 0 2 ∷ term_of 3 4 0 2 ∷ []) (course_of 2 5 ∷ course_of 2 6 ∷ course_of 2 7
+    ∷ course_of 1 2 ∷ []))
     2 2
 unfolding computing
 ties = refl

@@ -17,10 +17,12 @@ courses =
 
 -- the year, and what filtering makes of it: the counts of terms 0 and 1 are tighter
 abbrev given : Year
-given = year_of (term_of 7 9 1 3 ∷ term_of 24 26 3 5 ∷ term_of 8 10 1 3 ∷ term_of 7 9 1 3 ∷ term_of 28 30 5 7 ∷ term_of 7 9 1 3 ∷ []) courses
+given = year_of (term_of 7 9 1 3 ∷ term_of 24 26 3 5 ∷ term_of 8 10 1 3 ∷ term_of 7 9 1 3 ∷ term_of 28 30 5 7 ∷ term_of 7 9 1 3
+    ∷ []) courses
 
 abbrev gives : Year
-gives = year_of (term_of 7 9 1 2 ∷ term_of 24 26 4 5 ∷ term_of 8 10 1 3 ∷ term_of 7 9 1 3 ∷ term_of 28 30 5 7 ∷ term_of 7 9 1 3 ∷ []) courses
+gives = year_of (term_of 7 9 1 2 ∷ term_of 24 26 4 5 ∷ term_of 8 10 1 3 ∷ term_of 7 9 1 3 ∷ term_of 28 30 5 7 ∷ term_of 7 9 1 3
+    ∷ []) courses
 
 larger : filter_of given ≡ filtered (Open 2) gives
 unfolding computing

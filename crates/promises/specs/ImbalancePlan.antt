@@ -19,11 +19,13 @@ pub record ImbalanceDue : Type 0 where
   -- 8: the year is not sound
   pub unsound : (y : Year) → (imbalance_number (imbalance_of y) ≡ 8) ↔ (Sound y → ⊥)
   -- 14: a course has several terms, or the one placing is no plan
-  pub unsettled : (y : Year) → (imbalance_number (imbalance_of y) ≡ 14) ↔ (Sound y × ((all_placed y ≡ false) ⊎ (Plan y (the_placing y) → ⊥)))
+  pub unsettled : (y : Year) → (imbalance_number (imbalance_of y) ≡ 14) ↔ (Sound y
+      × ((all_placed y ≡ false) ⊎ (Plan y (the_placing y) → ⊥)))
   -- 0: every course has one term, and that placing is a plan, the only one; then the value is its imbalance
   pub given : (y : Year) → (imbalance_number (imbalance_of y) ≡ 0) ↔ (Sound y × (all_placed y ≡ true) × Plan y (the_placing y))
   pub only : (y : Year) → imbalance_number (imbalance_of y) ≡ 0 → (p : Placing) → Plan y p → (i : ℕ) → i < y.courses → p i ≡ the_placing y i
-  pub value : (y : Year) → imbalance_number (imbalance_of y) ≡ 0 → (p : Placing) → Plan y p → imbalance_value (imbalance_of y) ≡ imbalance_in y p
+  pub value : (y : Year) → imbalance_number (imbalance_of y) ≡ 0 → (p : Placing) → Plan y p
+      → imbalance_value (imbalance_of y) ≡ imbalance_in y p
   pub no_value : (y : Year) → (imbalance_number (imbalance_of y) ≡ 0 → ⊥) → imbalance_value (imbalance_of y) ≡ 0
 
 -- what the number means, of every plan of every year

@@ -56,7 +56,8 @@ unfolding records_of joined
 year_e_records = refl
 
 -- five records want 80 bytes; the byte behind them stays
-pub year_e_written : (write_answer year_e 79 ≡ Short) × (write_answer year_e 80 ≡ Done) × (written year_e (replicate 81 7) ≡ bytes_e ++ 7 ∷ [])
+pub year_e_written : (write_answer year_e 79 ≡ Short) × (write_answer year_e 80 ≡ Done)
+    × (written year_e (replicate 81 7) ≡ bytes_e ++ 7 ∷ [])
 unfolding write_answer written records_of joined computingYear
 year_e_written = (refl, refl, refl)
 
@@ -117,7 +118,8 @@ unfolding computing joined
 terms = (refl, refl)
 
 -- 64 courses: the last behind 63, and one more behind 64
-pub courses : (record_at (plain_course 63 1) 0 1 63 ≡ OfCourse (course_of 1 1)) × (record_at (plain_course 64 1) 0 1 64 ≡ Faulty fault.Number)
+pub courses : (record_at (plain_course 63 1) 0 1 63 ≡ OfCourse (course_of 1 1))
+    × (record_at (plain_course 64 1) 0 1 64 ≡ Faulty fault.Number)
 unfolding computing
 courses = (refl, refl)
 

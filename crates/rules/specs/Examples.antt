@@ -112,7 +112,8 @@ unfolding computing
 above_half_lem = refl
 
 -- what the rule answers by them
-at_sizes : (rule11_at_sizes at_half).rule ∷ (rule11_at_sizes at_a_terms_size).rule ∷ (rule11_at_sizes above_half).rule ∷ [] ≡ 11 ∷ 11 ∷ 0 ∷ []
+at_sizes : (rule11_at_sizes at_half).rule ∷ (rule11_at_sizes at_a_terms_size).rule ∷ (rule11_at_sizes above_half).rule ∷ [] ≡ 11
+    ∷ 11 ∷ 0 ∷ []
 unfolding computing
 at_sizes = refl
 
@@ -188,6 +189,7 @@ unfolding computing
 early = refl
 
 -- rule 7 passes a course that term 1 cannot spare and counts the one behind it
-skips : (first_after rule7 (year_of (term_of 0 4 0 3 ∷ term_of 0 9 1 3 ∷ term_of 0 9 0 3 ∷ []) (course_of 1 3 ∷ course_of 2 5 ∷ []))).most.0 ≡ 1
+skips : (first_after rule7 (year_of (term_of 0 4 0 3 ∷ term_of 0 9 1 3 ∷ term_of 0 9 0 3 ∷ []) (course_of 1 3 ∷ course_of 2 5
+    ∷ []))).most.0 ≡ 1
 unfolding computing
 skips = refl

@@ -80,7 +80,8 @@ alone_2 = refl
 
 -- ---- rules 3 and 10
 
-strike_3 : let y = beside (term_of 0 5 0 2) fixed_and_open in told y (reason3 y 0 1) ≡ strikes 1 0 by inside 0 0 ∷ keeps High Credits 0 5 ∷ []
+strike_3 : let y = beside (term_of 0 5 0 2) fixed_and_open in told y (reason3 y 0 1) ≡ strikes 1 0 by inside 0 0
+    ∷ keeps High Credits 0 5 ∷ []
 unfolding computing
 strike_3 = refl
 

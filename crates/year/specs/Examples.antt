@@ -191,7 +191,8 @@ sums_past = (refl, refl, refl, refl, refl)
 
 -- a year whose sums were left 0 is not sound; filled in they are as above. Other sums than these are mended, and what is unsound in
 -- another way comes back as it was given
-pub sums_filled_in : (is_sound (unsummed 2 3 year_e.term (padded 64 zero_course (course_of 4 3 ∷ course_of 3 3 ∷ course_of 2 3 ∷ []))) ≡ false)
+pub sums_filled_in : (is_sound (unsummed 2 3 year_e.term (padded 64 zero_course (course_of 4 3 ∷ course_of 3 3 ∷ course_of 2 3
+    ∷ []))) ≡ false)
     × (by_hand 2 3 year_e.term (padded 64 zero_course (course_of 4 3 ∷ course_of 3 3 ∷ course_of 2 3 ∷ [])) ≡ year_e)
     × (summed_of (with_other year_e 1 (sums_of 9 9 9 9)) ≡ year_e)
     × (summed_of year_e ≡ year_e)

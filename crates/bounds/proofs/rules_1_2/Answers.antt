@@ -1,6 +1,5 @@
 -- Each rule starts from the bounds that the rule before it left, and the courses stay.
 use mathlib.Core.Path.{refl, ◌∙◌}
-use borrow.Author.Rules.{rules}
 use Rattle.rules.specs.Step.{over_terms, Step}
 use Rattle.frame.specs.State.{year_in, step_in}
 use Rattle.year.specs.declared.Quantity.TheVariants.{Credits}

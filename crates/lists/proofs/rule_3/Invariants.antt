@@ -1,15 +1,9 @@
 -- The loop's invariant: the state after the first j terms, sums included. A term of which the rule says nothing would have altered nothing.
 use Prim.Native.Nat.{◌≤◌, ◌-◌}
-use mathlib.Core.Logic.{⊎_elim}
-use mathlib.Core.Path.{◌≡◌, refl, sym, ap, ◌∙◌}
-use native.Mathlib.Omega.{arith}
-use borrow.Author.Rules.{rules}
-use Rattle.theory.specs.Fold.{fold}
+use mathlib.Core.Path.{◌≡◌}
 use Rattle.rules.specs.Step.{over_to}
 use Rattle.frame.specs.State.{held, step_in}
 use Rattle.rules.specs.Lists.{rule3}
-use Rattle.frame.proofs.TermsAt.{no_plan_stays}
-use Rattle.lists.proofs.OverLaws.{TermTurn, fits_3, turn_3}
 use Rattle.lists.proofs.rule_3.Given as goal
 
 abbrev pub invariant-loop-j : goal.invariant-loop-j

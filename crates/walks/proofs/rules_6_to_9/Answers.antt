@@ -1,7 +1,6 @@
 -- Each rule starts from the bounds that the rule before it left, and the courses stay. The orders are the year's own.
 use Prim.Native.Nat.{ℕ}
 use mathlib.Core.Path.{◌≡◌, refl, ◌∙◌}
-use borrow.Author.Rules.{rules}
 use Rattle.rules.specs.Step.{Step}
 use Rattle.rules.specs.Round.{in_row, passes_of}
 use Rattle.frame.specs.State.{year_in, step_in}

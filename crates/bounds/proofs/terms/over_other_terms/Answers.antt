@@ -1,16 +1,15 @@
 -- The loop's invariant: the bounds are those that the first j terms leave, each within the sizes, and the totals are theirs.
-use Prim.Native.Nat.{ℕ, ◌≤◌, ◌<◌, ◌-◌}
+use Prim.Native.Nat.{◌<◌}
 use mathlib.Core.Bool.{true, ◌&&◌}
 use mathlib.Core.Path.{◌≡◌, refl, sym, ap, subst, ◌∙◌}
 use native.Mathlib.Omega.{arith}
 use lib.Dec.{eqb, ltb}
 use lib.ListN.{length}
-use borrow.Author.Rules.{rules}
 use Rattle.theory.specs.Fold.{fold}
 use Rattle.year.specs.Sound.{TermSound}
 use Rattle.frame.specs.declared.Outcome.{Outcome}
-use Rattle.bounds.specs.AtTerm.{totals_to, other_terms_by, other_terms_at}
-use Rattle.frame.specs.Bounds.{bounds_over, term_in}
+use Rattle.bounds.specs.AtTerm.{other_terms_by}
+use Rattle.frame.specs.Bounds.{term_in}
 use Rattle.frame.specs.declared.Bounds.{Bounds}
 use Rattle.bounds.specs.declared.Totals.{Totals}
 use Rattle.bounds.proofs.AtTermLaws.{totals_fit, entry_le, totals_set, other_terms_sound}

@@ -1,14 +1,8 @@
 -- The loop's invariant: the bounds are those that the first j terms leave.
-use Prim.Native.Nat.{◌≤◌, ◌<◌, ◌-◌}
-use mathlib.Core.Bool.{true, ◌&&◌}
-use mathlib.Core.Path.{◌≡◌, refl}
-use native.Mathlib.Omega.{arith}
-use lib.Dec.{eqb, ltb}
-use borrow.Author.Rules.{rules}
-use Rattle.theory.specs.Fold.{fold}
+use Prim.Native.Nat.{◌≤◌, ◌-◌}
+use mathlib.Core.Path.{◌≡◌}
 use Rattle.bounds.specs.AtTerm.{own_sums_at}
 use Rattle.frame.specs.Bounds.{bounds_over}
-use Rattle.frame.proofs.BoundsOver.{goes_on, term_turn, over_finish}
 use Rattle.bounds.proofs.terms.over_own_sums.Given as goal
 
 abbrev pub invariant-loop-j : goal.invariant-loop-j

@@ -1,5 +1,4 @@
 -- The loop's invariant: the totals so far are those of the first k entries. None overflows: an entry's bounds are within the sizes.
-use Prim.Native.Nat.{◌≤◌, ◌-◌}
 use mathlib.Core.Path.{◌≡◌, sym, ap, ◌∙◌}
 use native.Mathlib.Omega.{arith}
 use borrow.Author.Rules.{rules}

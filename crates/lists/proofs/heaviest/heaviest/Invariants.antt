@@ -1,11 +1,8 @@
 -- The loop's invariant: the heaviest open courses among the first i.
 use Prim.Native.Nat.{◌≤◌, ◌-◌}
-use mathlib.Core.Path.{◌≡◌, refl, ap, ap₂, ◌∙◌}
-use native.Mathlib.Omega.{arith}
-use borrow.Author.Rules.{rules}
+use mathlib.Core.Path.{◌≡◌}
 use Rattle.theory.specs.Tab.{tab}
-use Rattle.lists.specs.Heaviest.{heaviest_to, heaviest_in, heaviest_with}
-use Rattle.lists.proofs.HeaviestLaws.{heaviest_all_more}
+use Rattle.lists.specs.Heaviest.{heaviest_in}
 use Rattle.lists.proofs.heaviest.heaviest.Given as goal
 
 abbrev pub invariant-loop-i : goal.invariant-loop-i

@@ -1,6 +1,4 @@
 -- The loop's invariant: the array at the start, filled for the first k terms.
-use Prim.Native.Nat.{◌≤◌, ◌-◌}
-use mathlib.Core.Path.{◌≡◌}
 use native.Mathlib.Omega.{arith}
 use borrow.Author.Rules.{rules}
 use Rattle.theory.proofs.TabLaws.{fill, filling_more, filling_ends}

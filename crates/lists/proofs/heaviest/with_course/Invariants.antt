@@ -1,9 +1,7 @@
 -- The loop's invariant: the array at the start, filled for the first k terms.
 use Prim.Native.Nat.{◌≤◌, ◌-◌}
 use mathlib.Core.Path.{◌≡◌}
-use native.Mathlib.Omega.{arith}
-use borrow.Author.Rules.{rules}
-use Rattle.theory.proofs.TabLaws.{fill, filling_more, filling_ends}
+use Rattle.theory.proofs.TabLaws.{fill}
 use Rattle.lists.specs.Heaviest.{heaviest_with}
 use Rattle.lists.proofs.heaviest.with_course.Given as goal
 

@@ -1,9 +1,6 @@
 -- A term with no plan, and one whose courses are gone through.
 use Prim.Native.Nat.{ℕ}
-use mathlib.Core.List.{[], ◌∷◌}
 use mathlib.Core.Path.{◌≡◌, ◌∙◌}
-use types.Run.{miss}
-use borrow.Author.Rules.{rules}
 use Rattle.lists.specs.declared.TermVerdict.TheVariants.{NoPlan}
 use Rattle.lists.proofs.TermLaws.{no_plan, courses_are}
 use Rattle.lists.proofs.terms.term_judged.Goals as goal

@@ -1,5 +1,4 @@
 -- The verdict on a course is that of the rule which speaks of its term.
-use borrow.Author.Rules.{rules}
 use Rattle.lists.proofs.verdicts.course_verdict.Goals as goal
 
 pub returns-in-ByCredits : goal.returns-in-ByCredits

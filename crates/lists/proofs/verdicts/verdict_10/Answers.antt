@@ -1,7 +1,5 @@
 -- The three tests are the definition's, in its order.
 use mathlib.Core.Path.{sym, ◌∙◌}
-use borrow.Author.Rules.{rules}
-use borrow.Author.Tests.{not-true, not-false}
 use Rattle.rules.specs.Lists.{verdict10}
 use Rattle.lists.proofs.verdicts.verdict_10.Goals as goal
 

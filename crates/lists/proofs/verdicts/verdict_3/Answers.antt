@@ -1,7 +1,6 @@
 -- The three tests are the definition's, in its order.
 use mathlib.Core.Path.{sym, ◌∙◌}
-use borrow.Author.Rules.{rules}
-use borrow.Author.Tests.{lt-ltb, le-ltb, not-true, not-false}
+use borrow.Author.Tests.{lt-ltb, le-ltb}
 use Rattle.rules.specs.Lists.{verdict3}
 use Rattle.lists.proofs.verdicts.verdict_3.Goals as goal
 

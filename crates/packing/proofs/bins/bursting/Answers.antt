@@ -1,5 +1,4 @@
 -- The loop's invariant: the flag says whether one of the first k terms is over its high credits.
-use Prim.Native.Nat.{◌≤◌, ◌-◌}
 use mathlib.Core.Bool.{◌||◌}
 use mathlib.Core.Path.{◌≡◌, sym, ap, ◌∙◌}
 use native.Mathlib.Omega.{arith}

@@ -1,11 +1,7 @@
 -- The loop's invariant: the number is the largest high credits of the first k terms.
 use Prim.Native.Nat.{◌≤◌, ◌-◌}
-use mathlib.Core.Logic.{⊎_elim}
-use mathlib.Core.Path.{◌≡◌, ap, ◌∙◌}
-use native.Mathlib.Omega.{arith}
-use borrow.Author.Rules.{rules}
+use mathlib.Core.Path.{◌≡◌}
 use Rattle.theory.specs.Largest.{largest}
-use Rattle.theory.proofs.LargestLaws.{largest_more}
 use Rattle.frame.specs.Bounds.{high_in}
 use Rattle.packing.proofs.bins.room.Given as goal
 

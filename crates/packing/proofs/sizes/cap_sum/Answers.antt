@@ -1,5 +1,4 @@
 -- The loop's invariant: the sum over the first i sizes, of which each is at most c.
-use Prim.Native.Nat.{◌≤◌, ◌*◌, ◌-◌}
 use mathlib.Core.Path.{◌≡◌, ap, ◌∙◌}
 use native.Mathlib.Omega.{arith}
 use lib.ListN.{length}

@@ -1,12 +1,9 @@
 -- The loop's invariant: the sum over the first i sizes, of which each is at most c.
 use Prim.Native.Nat.{◌≤◌, ◌*◌, ◌-◌}
-use mathlib.Core.Path.{◌≡◌, ap, ◌∙◌}
-use native.Mathlib.Omega.{arith}
+use mathlib.Core.Path.{◌≡◌}
 use lib.ListN.{length}
-use borrow.Author.Rules.{rules}
 use Rattle.theory.specs.Sum.{sum as total}
-use Rattle.theory.proofs.SumLaws.{sum_more}
-use Rattle.packing.specs.Sizes.{capped_at, cap_sum}
+use Rattle.packing.specs.Sizes.{capped_at}
 use Rattle.packing.proofs.sizes.cap_sum.Given as goal
 
 abbrev pub invariant-loop-i : goal.invariant-loop-i

@@ -1,5 +1,4 @@
 -- The loop's invariant: zeros, with the sizes of the first i courses stored.
-use Prim.Native.Nat.{◌≤◌, ◌-◌}
 use mathlib.Core.Path.{◌≡◌, ap, ◌∙◌}
 use native.Mathlib.Omega.{arith}
 use lib.ListN.{replicate}

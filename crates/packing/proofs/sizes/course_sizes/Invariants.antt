@@ -1,12 +1,8 @@
 -- The loop's invariant: zeros, with the sizes of the first i courses stored.
 use Prim.Native.Nat.{◌≤◌, ◌-◌}
-use mathlib.Core.Path.{◌≡◌, ap, ◌∙◌}
-use native.Mathlib.Omega.{arith}
-use lib.ListN.{replicate}
-use borrow.Author.Rules.{rules}
-use Rattle.theory.proofs.TabLaws.{fill, filling_more}
-use Rattle.packing.specs.Sizes.{size_of, size_in, first_of}
-use Rattle.packing.proofs.ArrayLaws.{first_is, fill_first}
+use mathlib.Core.Path.{◌≡◌}
+use Rattle.theory.proofs.TabLaws.{fill}
+use Rattle.packing.specs.Sizes.{size_in, first_of}
 use Rattle.packing.proofs.sizes.course_sizes.Given as goal
 
 abbrev pub invariant-loop-i : goal.invariant-loop-i

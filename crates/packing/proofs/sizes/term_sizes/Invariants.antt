@@ -1,12 +1,8 @@
 -- The loop's invariant: zeros, with the sizes of the first k terms stored.
 use Prim.Native.Nat.{◌≤◌, ◌-◌}
-use mathlib.Core.Path.{◌≡◌, ap, ◌∙◌}
-use native.Mathlib.Omega.{arith}
-use lib.ListN.{replicate}
-use borrow.Author.Rules.{rules}
-use Rattle.theory.proofs.TabLaws.{fill, filling_more}
+use mathlib.Core.Path.{◌≡◌}
+use Rattle.theory.proofs.TabLaws.{fill}
 use Rattle.packing.specs.Sizes.{used_in, first_of}
-use Rattle.packing.proofs.ArrayLaws.{first_is, fill_first}
 use Rattle.packing.proofs.sizes.term_sizes.Given as goal
 
 abbrev pub invariant-loop-k : goal.invariant-loop-k

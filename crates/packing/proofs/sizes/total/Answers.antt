@@ -1,5 +1,4 @@
 -- The loop's invariant: the sum of the first i sizes, of which each is at most 1,000.
-use Prim.Native.Nat.{◌≤◌, ◌*◌, ◌-◌}
 use mathlib.Core.Path.{◌≡◌, ap, ◌∙◌}
 use native.Mathlib.Omega.{arith}
 use lib.ListN.{length}

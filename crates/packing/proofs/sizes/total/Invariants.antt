@@ -1,12 +1,9 @@
 -- The loop's invariant: the sum of the first i sizes, of which each is at most 1,000.
 use Prim.Native.Nat.{◌≤◌, ◌*◌, ◌-◌}
-use mathlib.Core.Path.{◌≡◌, ap, ◌∙◌}
-use native.Mathlib.Omega.{arith}
+use mathlib.Core.Path.{◌≡◌}
 use lib.ListN.{length}
 use Rattle.theory.specs.Sum.{sum as total}
-use Rattle.theory.proofs.SumLaws.{sum_more}
 use Rattle.packing.specs.Sizes.{size_at}
-use borrow.Author.Rules.{rules}
 use Rattle.packing.proofs.sizes.total.Given as goal
 
 abbrev pub invariant-loop-i : goal.invariant-loop-i

@@ -1,7 +1,6 @@
 -- Where even the heaviest counts itself, what the sizes count for is the sum of those from t on; elsewhere it is added up.
 use mathlib.Core.Path.{◌∙◌}
 use native.Mathlib.Omega.{arith}
-use borrow.Author.Rules.{rules}
 use Rattle.packing.proofs.ThresholdLaws.{from_counts}
 use Rattle.packing.proofs.thresholds.counted.Goals as goal
 

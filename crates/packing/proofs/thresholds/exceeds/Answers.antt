@@ -1,6 +1,5 @@
 -- The sum of the terms' sizes at t is added; the test is the definition's.
 use mathlib.Core.Path.{ap}
-use borrow.Author.Rules.{rules}
 use lib.Dec.{ltb}
 use Prim.Native.Nat.{◌+◌}
 use Rattle.packing.proofs.thresholds.exceeds.Goals as goal

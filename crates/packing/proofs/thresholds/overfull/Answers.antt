@@ -1,7 +1,6 @@
 -- Under the bound no t is too much; above it, the thresholds answer.
 use mathlib.Core.Path.{sym}
 use native.Mathlib.Omega.{arith}
-use borrow.Author.Rules.{rules}
 use Rattle.packing.proofs.SizeLaws.{none_over}
 use Rattle.packing.proofs.thresholds.overfull.Goals as goal
 

@@ -1,11 +1,7 @@
 -- The loop's invariant: the first r courses have gone by, and none of their sizes was too much.
-use Prim.Native.Nat.{◌+◌, ◌-◌, ◌/◌, ◌≤◌, ◌<◌}
-use mathlib.Core.Bool.{true, false}
-use mathlib.Core.Logic.{⊎_elim}
-use mathlib.Core.Path.{◌≡◌, sym, subst}
-use native.Mathlib.Omega.{arith}
-use lib.ListN.{length, get_or}
-use Rattle.packing.proofs.ThresholdLaws.{over_is, Passed, none_passed, all_passed, one_exceeds, enough, rest_from, one_tried, one_passed, new_size, old_size}
+use Prim.Native.Nat.{◌-◌, ◌≤◌}
+use lib.ListN.{length}
+use Rattle.packing.proofs.ThresholdLaws.{Passed}
 use Rattle.packing.proofs.thresholds.some_course_exceeds.Given as goal
 
 abbrev pub invariant-loop-r : goal.invariant-loop-r

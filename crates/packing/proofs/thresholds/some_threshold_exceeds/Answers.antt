@@ -3,7 +3,6 @@ use mathlib.Core.Bool.{Bool, true, false, ◌||◌, or-false}
 use mathlib.Core.Path.{◌≡◌, sym, ap, ap₂, ◌∙◌}
 use Prim.Native.Nat.{◌+◌, ◌/◌}
 use lib.ListN.{length}
-use borrow.Author.Rules.{rules}
 use Rattle.theory.specs.Tests.{any}
 use Rattle.theory.proofs.TestLaws.{or_left, or_right}
 use Rattle.packing.specs.Sizes.{over}

@@ -1,5 +1,4 @@
 -- The loop's invariant: the flag says whether one of the first k terms is listed with spare 0.
-use Prim.Native.Nat.{◌≤◌, ◌-◌}
 use mathlib.Core.Bool.{Bool, ◌||◌}
 use mathlib.Core.Path.{◌≡◌, sym, ap, ◌∙◌}
 use native.Mathlib.Omega.{arith}

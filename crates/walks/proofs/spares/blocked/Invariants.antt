@@ -1,11 +1,7 @@
 -- The loop's invariant: the flag says whether one of the first k terms is listed with spare 0.
 use Prim.Native.Nat.{◌≤◌, ◌-◌}
-use mathlib.Core.Bool.{Bool, ◌||◌}
-use mathlib.Core.Path.{◌≡◌, sym, ap, ◌∙◌}
-use native.Mathlib.Omega.{arith}
-use borrow.Author.Rules.{rules}
+use mathlib.Core.Path.{◌≡◌}
 use Rattle.theory.specs.Tests.{any}
-use Rattle.theory.proofs.TestLaws.{any_more}
 use Rattle.walks.specs.Sparing.{stuck}
 use Rattle.walks.proofs.spares.blocked.Given as goal
 

@@ -1,6 +1,5 @@
 -- The loop's invariant: the array is filled with what is left in the first k entries.
-use Prim.Native.Nat.{◌≤◌, ◌-◌}
-use mathlib.Core.Path.{◌≡◌, ◌∙◌}
+use mathlib.Core.Path.{◌∙◌}
 use native.Mathlib.Omega.{arith}
 use borrow.Author.Rules.{rules}
 use Rattle.theory.proofs.TabLaws.{fill, filling_long, filling_more, filling_ends}

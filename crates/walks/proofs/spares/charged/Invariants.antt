@@ -1,11 +1,8 @@
 -- The loop's invariant: the array is filled with what is left in the first k entries.
 use Prim.Native.Nat.{◌≤◌, ◌-◌}
-use mathlib.Core.Path.{◌≡◌, ◌∙◌}
-use native.Mathlib.Omega.{arith}
-use borrow.Author.Rules.{rules}
-use Rattle.theory.proofs.TabLaws.{fill, filling_long, filling_more, filling_ends}
+use mathlib.Core.Path.{◌≡◌}
+use Rattle.theory.proofs.TabLaws.{fill}
 use Rattle.walks.specs.Sparing.{charged_at}
-use Rattle.walks.proofs.SparingLaws.{charged_entry}
 use Rattle.walks.proofs.spares.charged.Given as goal
 
 abbrev pub invariant-loop-k : goal.invariant-loop-k

@@ -1,9 +1,7 @@
 -- The loop's invariant: the array is filled with the low counts of the first k terms.
 use Prim.Native.Nat.{◌≤◌, ◌-◌}
-use mathlib.Core.Path.{◌≡◌, refl}
-use native.Mathlib.Omega.{arith}
-use borrow.Author.Rules.{rules}
-use Rattle.theory.proofs.TabLaws.{fill, filling_long, filling_more, filling_ends}
+use mathlib.Core.Path.{◌≡◌}
+use Rattle.theory.proofs.TabLaws.{fill}
 use Rattle.frame.specs.Bounds.{least_in}
 use Rattle.walks.proofs.spares.low_counts.Given as goal
 

@@ -1,10 +1,7 @@
 -- The loop's invariant: the array is filled with the spares of the first k terms.
 use Prim.Native.Nat.{◌≤◌, ◌-◌}
-use mathlib.Core.Path.{◌≡◌, ap, ◌∙◌}
-use native.Mathlib.Omega.{arith}
-use lib.ListN.{get_or}
-use borrow.Author.Rules.{rules}
-use Rattle.theory.proofs.TabLaws.{fill, filling_long, filling_more, filling_ends}
+use mathlib.Core.Path.{◌≡◌}
+use Rattle.theory.proofs.TabLaws.{fill}
 use Rattle.walks.specs.Sparing.{spare_from}
 use Rattle.walks.proofs.spares.spares.Given as goal
 

@@ -1,5 +1,4 @@
 -- The loop's invariant: both arrays are filled with the tallies of the first k terms.
-use Prim.Native.Nat.{◌≤◌, ◌-◌}
 use mathlib.Core.Path.{◌≡◌, refl}
 use native.Mathlib.Omega.{arith}
 use borrow.Author.Rules.{rules}

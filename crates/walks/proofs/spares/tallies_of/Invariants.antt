@@ -1,9 +1,7 @@
 -- The loop's invariant: both arrays are filled with the tallies of the first k terms.
 use Prim.Native.Nat.{◌≤◌, ◌-◌}
-use mathlib.Core.Path.{◌≡◌, refl}
-use native.Mathlib.Omega.{arith}
-use borrow.Author.Rules.{rules}
-use Rattle.theory.proofs.TabLaws.{fill, filling_long, filling_more, filling_ends}
+use mathlib.Core.Path.{◌≡◌}
+use Rattle.theory.proofs.TabLaws.{fill}
 use Rattle.walks.specs.Sparing.{free_in, placed_in}
 use Rattle.walks.proofs.spares.tallies_of.Given as goal
 

@@ -2,7 +2,6 @@
 use mathlib.Core.Path.{◌≡◌, refl, sym, ap, ap₂, ◌∙◌}
 use native.Mathlib.Omega.{arith}
 use lib.ListN.{take}
-use borrow.Author.Rules.{rules}
 use Rattle.walks.specs.Walking.{walk_over, ended_of, until_of}
 use Rattle.walks.specs.declared.Walk.{Walk}
 use Rattle.walks.proofs.WalkLaws.{sums_small, none_walked}

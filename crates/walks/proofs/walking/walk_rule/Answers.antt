@@ -1,18 +1,17 @@
 -- The loop's invariant: the bounds are those that the first j terms leave, each within the sizes, and the low counts are theirs.
-use Prim.Native.Nat.{ℕ, ◌≤◌, ◌<◌, ◌-◌}
+use Prim.Native.Nat.{◌<◌}
 use mathlib.Core.Bool.{true}
 use mathlib.Core.Path.{◌≡◌, refl, sym, ap, ap₂, subst, ◌∙◌}
 use native.Mathlib.Omega.{arith}
 use lib.Dec.{eqb}
 use lib.ListN.{length, take}
-use borrow.Author.Rules.{rules}
 use Rattle.theory.specs.Fold.{fold}
 use Rattle.theory.specs.Tab.{tab}
 use Rattle.theory.proofs.TabLaws.{length_tab}
 use Rattle.year.specs.Sound.{TermSound}
 use Rattle.year.specs.Sums.{sums_in}
 use Rattle.frame.specs.declared.Outcome.{Outcome}
-use Rattle.frame.specs.Bounds.{bounds_over, least_in, term_in}
+use Rattle.frame.specs.Bounds.{least_in, term_in}
 use Rattle.frame.specs.declared.Bounds.{Bounds}
 use Rattle.frame.proofs.BoundsAt.{stored_sound}
 use Rattle.frame.proofs.BoundsOver.{goes_on, over_long, term_turn, over_finish}

@@ -3,14 +3,13 @@ use Prim.Native.Nat.{◌+◌, ◌-◌}
 use mathlib.Core.Bool.{true, false, not, ◌||◌}
 use mathlib.Core.Path.{◌≡◌, sym, ap, ap₂, ◌∙◌}
 use native.Mathlib.Omega.{arith}
-use borrow.Author.Tests.{not-true, not-false}
 use borrow.Author.Rules.{rules}
 use Rattle.theory.specs.Tests.{any}
 use Rattle.theory.proofs.TestLaws.{and_true}
 use Rattle.theory.specs.Tab.{tab}
 use Rattle.theory.proofs.BitLaws.{has_le}
 use Rattle.year.specs.Year.{lists, is_fixed, is_open}
-use Rattle.rules.specs.Spares.{blocked, charged, stops}
+use Rattle.rules.specs.Spares.{blocked, stops}
 use Rattle.walks.specs.Sparing.{stuck, charged_at}
 use Rattle.walks.specs.Walking.{walk_as, stepped}
 use Rattle.walks.proofs.SparingLaws.{blocked_is, charged_is}

@@ -1,12 +1,12 @@
 -- The loop's invariant: what is left to walk gives what the whole walk gives. Each course adds at most 1,000 credits.
-use Prim.Native.Nat.{◌+◌, ◌*◌, ◌≤◌, ◌<◌, ◌-◌}
+use Prim.Native.Nat.{◌<◌}
 use mathlib.Core.Bool.{false}
 use mathlib.Core.Path.{◌≡◌, sym, ap, ◌∙◌}
 use native.Mathlib.Omega.{arith}
-use lib.ListN.{get_or, take, drop}
+use lib.ListN.{get_or}
 use borrow.Author.Rules.{rules}
-use Rattle.walks.specs.Walking.{walk_over, stepped}
-use Rattle.walks.proofs.WalkLaws.{left, walk_goes_on, turn_at, none_left}
+use Rattle.walks.specs.Walking.{stepped}
+use Rattle.walks.proofs.WalkLaws.{walk_goes_on, turn_at, none_left}
 use Rattle.walks.proofs.walking.walked.Goals as goal
 use Rattle.walks.proofs.walking.walked.Goals.{In-loop-k}
 
