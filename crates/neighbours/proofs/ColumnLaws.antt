@@ -1,23 +1,22 @@
 -- The open courses of a term out of the columns of a year: where each stands among them, and the verdict on it by its place.
-use Prim.Native.Nat.{ℕ, zero, suc, ◌+◌, ◌-◌, ◌*◌, ◌≤◌, ◌<◌}
-use mathlib.Core.Bool.{Bool, true, false, not, ◌||◌, true≢false}
+use Prim.Native.Nat.{ℕ, zero, suc, ◌+◌, ◌-◌, ◌≤◌, ◌<◌}
+use mathlib.Core.Bool.{Bool, true, false}
 use mathlib.Core.List.{List, [], ◌∷◌}
 use mathlib.Core.Path.{◌≡◌, refl, sym, ap, ap₂, ◌∙◌, subst}
 use native.Mathlib.Omega.{arith}
-use lib.Dec.{eqb, ltb}
 use lib.ListN.{length, get_or, take}
 use lib.Seq.{get_or-take, length-take-le, take-length}
 use borrow.Author.Tests.{le-ltb}
 use Rattle.theory.specs.Choice.{choose}
-use Rattle.theory.specs.Order.{lighter, rank, order, keep}
+use Rattle.theory.specs.Order.{lighter, rank, keep}
 use Rattle.theory.specs.Sum.{weigh}
 use Rattle.theory.specs.Neighbours.{fires}
-use Rattle.theory.proofs.OrderLaws.{weight_key, lightness, lighter_keyed, lighter_rises, lighter_up, rank_within, order_at, placed}
+use Rattle.theory.proofs.OrderLaws.{weight_key, lightness, lighter_keyed, lighter_up, rank_within, order_at, placed}
 use Rattle.theory.proofs.WalkLaws.{Up}
-use Rattle.rules.specs.declared.Verdict.TheVariants.{Stays, Struck, Fixed}
+use Rattle.rules.specs.declared.Verdict.TheVariants.{Stays}
 use Rattle.orders.proofs.OrderLaws.{order_long}
 use Rattle.neighbours.specs.Lightest.{upto, Rising, left_out, Lent, fires_by, Calm, Quiet}
-use Rattle.neighbours.specs.Opened.{at, open_in, opened, Ordered, Gathers}
+use Rattle.neighbours.specs.Opened.{at, open_in, Ordered, Gathers}
 use Rattle.neighbours.specs.Verdicts.{rising_in, set_in, rest_in, verdict_in, verdict_by, Columns}
 use Rattle.neighbours.proofs.SetLaws.{Apart, Weighed, upto_more, rising_of, rising_same, lent_all, fires_all, lent_rest, fires_rest, calm_still, quiet_same, quiet_still}
 use Rattle.neighbours.proofs.GatheringLaws.{kept_from, keep_short, keep_light}

@@ -6,7 +6,7 @@ use mathlib.Core.Path.{◌≡◌, refl, sym, ap, ap₂, ◌∙◌, subst}
 use native.Mathlib.Numerals.{add-one}
 use native.Mathlib.Decide.{ℕ_discrete, dec_lt}
 use native.Mathlib.Omega.{arith}
-use lib.ListN.{length, get_or, take, set, length-set, length-append, length-replicate, get_or-append}
+use lib.ListN.{length, get_or, take, set, length-set, length-append, get_or-append}
 use lib.Seq.{get_or-set_same, get_or-set_other, get_or-take, get_or-append_seam, take-suc, take-length, take-append-le, length-take-le}
 use Rattle.theory.specs.Choice.{choose}
 use Rattle.theory.specs.Order.{keep}

@@ -1,8 +1,8 @@
 -- Rule 12 at a term by what is said of it, and a turn of the code's loop over the terms.
 use Prim.Native.Nat.{ℕ, zero, suc, ◌+◌, ◌≤◌, ◌<◌}
-use mathlib.Core.Bool.{Bool, true, false, ◌||◌, or-false}
+use mathlib.Core.Bool.{false, or-false}
 use mathlib.Core.List.{List}
-use mathlib.Core.Path.{◌≡◌, refl, sym, ap, ap₂, subst, ◌∙◌}
+use mathlib.Core.Path.{◌≡◌, refl, sym, ap, subst, ◌∙◌}
 use native.Mathlib.Omega.{arith}
 use lib.ListN.{get_or}
 use Rattle.theory.specs.Choice.{choose}
@@ -11,9 +11,9 @@ use Rattle.year.specs.Year.{term_at}
 use Rattle.year.specs.Sums.{no_sums}
 use Rattle.year.specs.Sound.{Sound}
 use Rattle.year.specs.declared.Year.{Year}
-use Rattle.rules.specs.Step.{step, live, dead, judged, next, over_to, over_courses, joined, Step}
+use Rattle.rules.specs.Step.{step, live, dead, judged, next, over_to, over_courses, joined}
 use Rattle.rules.specs.Spares.{up}
-use Rattle.rules.specs.Neighbours.{cannot_be, verdict12, rule12_course, rule12}
+use Rattle.rules.specs.Neighbours.{verdict12, rule12_course, rule12}
 use Rattle.rules.specs.declared.Verdict.TheVariants.{Stays}
 use Rattle.rules.proofs.KeptOver.{AtTerms}
 use Rattle.rules.proofs.ListsKept.{rule12_held}

@@ -1,5 +1,4 @@
 -- `course_line`: number and weight, a blank, the terms, and the end.
-use borrow.Author.Rules.{rules}
 use Rattle.display.specs.Listing.{course_line}
 use Rattle.text.proofs.TextLaws as text
 use Rattle.display.proofs.ListingLaws as law

@@ -1,13 +1,8 @@
 -- `course_lines`: the lines of the courses passed so far stand in the buffer.
-use borrow.Author.Rules.{rules}
-use Prim.Native.Nat.{ℕ, ◌≤◌, ◌-◌}
-use mathlib.Core.Path.{◌≡◌, subst}
-use native.Mathlib.Omega.{arith}
+use Prim.Native.Nat.{◌≤◌, ◌-◌}
 use Rattle.text.specs.Put.{Put}
-use Rattle.text.proofs.TextLaws.{put_nothing}
 use Rattle.records.specs.Writing.{joined}
 use Rattle.display.specs.Listing.{course_line_at}
-use Rattle.display.proofs.ListingLaws as law
 use Rattle.display.proofs.course_lines.Given as goal
 
 abbrev pub invariant-loop-i : goal.invariant-loop-i

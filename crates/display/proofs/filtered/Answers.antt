@@ -1,5 +1,4 @@
 -- `filtered`: each answer with its own text.
-use borrow.Author.Rules.{rules}
 use Rattle.display.proofs.ListingLaws as law
 use Rattle.display.proofs.filtered.Goals as goal
 

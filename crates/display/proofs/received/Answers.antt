@@ -1,5 +1,4 @@
 -- `received`: a list that reads is filtered, and a refused one is told by number and place.
-use borrow.Author.Rules.{rules}
 use mathlib.Core.Path.{refl, sym, ap, ◌∙◌}
 use Rattle.records.specs.declared.Received.{Received}
 use Rattle.display.proofs.ListingLaws as law

@@ -1,5 +1,4 @@
 -- `term_line`: one line of five numbers.
-use borrow.Author.Rules.{rules}
 use Rattle.display.specs.Listing.{term_line}
 use Rattle.display.proofs.term_line.Goals as goal
 

@@ -1,6 +1,6 @@
 -- `term_lines`: the lines of the terms passed so far stand in the buffer.
 use borrow.Author.Rules.{rules}
-use Prim.Native.Nat.{ℕ, ◌≤◌, ◌-◌}
+use Prim.Native.Nat.{ℕ}
 use mathlib.Core.Path.{◌≡◌, subst}
 use native.Mathlib.Omega.{arith}
 use Rattle.text.specs.Put.{Put}

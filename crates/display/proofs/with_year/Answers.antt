@@ -1,5 +1,4 @@
 -- `with_year`: the answer, the terms and the courses.
-use borrow.Author.Rules.{rules}
 use Rattle.display.specs.Listing.{year_text}
 use Rattle.text.proofs.TextLaws as text
 use Rattle.display.proofs.ListingLaws as law

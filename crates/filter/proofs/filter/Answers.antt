@@ -1,7 +1,5 @@
 -- A year that is not sound is refused; any other is known to be sound.
 use mathlib.Core.Path.{◌∙◌, sym}
-use borrow.Author.Rules.{rules}
-use borrow.Author.Tests.{not-true, not-false}
 use Rattle.year.proofs.SoundLaws.{sound_of}
 use Rattle.filter.specs.Filter.{filter_of}
 use Rattle.filter.proofs.filter.Goals as goal

@@ -1,5 +1,4 @@
 -- A sound year is not refused.
-use borrow.Author.Rules.{rules}
 use Rattle.year.proofs.SoundLaws.{sound_to}
 use Rattle.filter.specs.Filter.{filter_of}
 use Rattle.filter.proofs.filter_sound.Goals as goal

@@ -1,13 +1,11 @@
 -- The loop's invariant: the state after the first j terms. The loop ends at the last term, or where no plan was found.
-use Prim.Native.Nat.{◌≤◌, ◌<◌, ◌-◌}
-use mathlib.Core.Logic.{⊎_elim}
+use Prim.Native.Nat.{◌<◌}
 use mathlib.Core.Path.{◌≡◌, refl, sym, ap, subst, ◌∙◌}
 use lib.Dec.{eqb, ltb}
 use borrow.Author.Tests.{ltb-true, eqb-true}
 use borrow.Author.Rules.{rules}
 use Rattle.theory.specs.Fold.{fold}
 use Rattle.theory.proofs.TestLaws.{and_true}
-use Rattle.rules.specs.Step.{over_to}
 use Rattle.rules.specs.Neighbours.{rule12}
 use Rattle.frame.specs.State.{held, year_in, step_in}
 use Rattle.frame.specs.declared.State.{State}

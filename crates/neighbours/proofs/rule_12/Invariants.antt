@@ -1,19 +1,9 @@
 -- The loop's invariant: the state after the first j terms. The loop ends at the last term, or where no plan was found.
-use Prim.Native.Nat.{◌≤◌, ◌<◌, ◌-◌}
-use mathlib.Core.Logic.{⊎_elim}
-use mathlib.Core.Path.{◌≡◌, refl, sym, ap, subst, ◌∙◌}
-use lib.Dec.{eqb, ltb}
-use borrow.Author.Tests.{ltb-true, eqb-true}
-use borrow.Author.Rules.{rules}
-use Rattle.theory.specs.Fold.{fold}
-use Rattle.theory.proofs.TestLaws.{and_true}
+use Prim.Native.Nat.{◌≤◌, ◌-◌}
+use mathlib.Core.Path.{◌≡◌}
 use Rattle.rules.specs.Step.{over_to}
 use Rattle.rules.specs.Neighbours.{rule12}
-use Rattle.frame.specs.State.{held, year_in, step_in}
-use Rattle.frame.specs.declared.State.{State}
-use Rattle.frame.proofs.TermsAt.{ends}
-use Rattle.neighbours.specs.Verdicts.{SaysOf}
-use Rattle.neighbours.proofs.RuleLaws.{order_still, asks, told, ready, nothing_turn, judged_turn}
+use Rattle.frame.specs.State.{held, step_in}
 use Rattle.neighbours.proofs.rule_12.Given as goal
 
 abbrev pub invariant-loop-j : goal.invariant-loop-j

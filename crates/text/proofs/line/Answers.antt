@@ -1,5 +1,4 @@
 -- `line`: the row, and its end.
-use borrow.Author.Rules.{rules}
 use Rattle.text.specs.Text.{newline, row_of, line_of}
 use Rattle.text.proofs.TextLaws as law
 use Rattle.text.proofs.line.Goals as goal

@@ -1,5 +1,4 @@
 -- `number`: the part of the ten digits that is put is the number in decimal.
-use borrow.Author.Rules.{rules}
 use Prim.Native.Nat.{ℕ, ◌+◌, ◌≤◌}
 use mathlib.Core.List.{List}
 use mathlib.Core.Path.{sym, subst}

@@ -1,5 +1,4 @@
 -- `numbered`: a blank, and the number behind it.
-use borrow.Author.Rules.{rules}
 use Rattle.text.proofs.TextLaws as law
 use Rattle.text.proofs.numbered.Goals as goal
 

@@ -1,6 +1,6 @@
 -- `numbers`: the numbers passed so far stand in the buffer.
 use borrow.Author.Rules.{rules}
-use Prim.Native.Nat.{ℕ, ◌≤◌, ◌-◌, ◌+◌}
+use Prim.Native.Nat.{ℕ, ◌≤◌, ◌+◌}
 use mathlib.Core.List.{List}
 use mathlib.Core.Path.{◌≡◌, ◌∙◌, ap, sym, subst}
 use native.Mathlib.Omega.{arith}

@@ -1,11 +1,6 @@
 -- `numbers`: the numbers passed so far stand in the buffer.
-use borrow.Author.Rules.{rules}
-use Prim.Native.Nat.{ℕ, ◌≤◌, ◌-◌, ◌+◌}
-use mathlib.Core.List.{List}
-use mathlib.Core.Path.{◌≡◌, ◌∙◌, ap, sym, subst}
-use native.Mathlib.Omega.{arith}
+use Prim.Native.Nat.{◌≤◌, ◌-◌}
 use lib.ListN.{length}
-use Rattle.text.specs.Text.{numbers_of}
 use Rattle.text.specs.Put.{Put}
 use Rattle.text.proofs.TextLaws as law
 use Rattle.text.proofs.numbers.Given as goal

@@ -1,5 +1,4 @@
 -- `piece`: where the list does not name the term, nothing is written.
-use borrow.Author.Rules.{rules}
 use mathlib.Core.Bool.{true}
 use mathlib.Core.List.{◌++◌}
 use mathlib.Core.Path.{◌≡◌}

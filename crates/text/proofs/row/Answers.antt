@@ -1,5 +1,4 @@
 -- `row`: the word, and the numbers behind it.
-use borrow.Author.Rules.{rules}
 use Rattle.text.specs.Text.{numbers_of, row_of}
 use Rattle.text.proofs.TextLaws as law
 use Rattle.text.proofs.row.Goals as goal

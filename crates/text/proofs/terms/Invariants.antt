@@ -1,13 +1,8 @@
 -- `terms`: the terms passed so far stand in the buffer, and whether there are any is known.
-use borrow.Author.Rules.{rules}
-use mathlib.Core.Bool.{Bool, ◌||◌}
-use mathlib.Core.Path.{◌≡◌, ◌∙◌, ap, sym, subst, refl}
-use Prim.Native.Nat.{ℕ, ◌+◌, ◌-◌, ◌≤◌}
-use native.Mathlib.Omega.{arith}
-use lib.ListN.{length}
-use Rattle.theory.specs.Bits.{has}
-use Rattle.text.specs.Text.{terms_to, commas_of, terms_of}
-use Rattle.text.specs.Put.{Put, piece_of}
+use mathlib.Core.Path.{◌≡◌}
+use Prim.Native.Nat.{◌-◌, ◌≤◌}
+use Rattle.text.specs.Text.{terms_to}
+use Rattle.text.specs.Put.{Put}
 use Rattle.text.proofs.TextLaws as law
 use Rattle.text.proofs.terms.Given as goal
 

@@ -1,16 +1,6 @@
 -- The loop's invariant is `BeforeRound`: each need is one of its laws at the values of the code.
-use Prim.Native.Nat.{◌+◌}
-use mathlib.Core.Path.{sym, ap, subst, ◌∙◌}
-use native.Mathlib.Omega.{arith}
-use borrow.Author.Rules.{rules}
-use borrow.Author.Tests.{not-true, not-false}
-use Rattle.year.specs.Sound.{Sound}
-use Rattle.year.specs.declared.Year.{Year}
 use Rattle.frame.specs.State.{year_in}
 use Rattle.rules.proofs.Leeway.{leeway}
-use Rattle.orders.proofs.OrderLaws.{weights_fit}
-use Rattle.filter.specs.Filter.{filtered, at_rest}
-use Rattle.filter.specs.declared.Answer.{Answer}
 use Rattle.filter.proofs.BeforeRound as laws
 use Rattle.filter.proofs.rounds.run.Given as goal
 

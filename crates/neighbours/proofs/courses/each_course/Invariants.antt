@@ -1,14 +1,9 @@
 -- The loop's invariant: the state after the first i courses.
-use Prim.Native.Nat.{◌-◌, ◌≤◌, ◌<◌}
-use mathlib.Core.Bool.{or-false}
-use mathlib.Core.Path.{◌≡◌, sym, ap, ◌∙◌}
-use native.Mathlib.Omega.{arith}
-use borrow.Author.Rules.{rules}
-use Rattle.theory.specs.Fold.{fold}
-use Rattle.rules.specs.Step.{step, live, joined, over_to}
+use Prim.Native.Nat.{◌-◌, ◌≤◌}
+use mathlib.Core.Path.{◌≡◌}
+use Rattle.rules.specs.Step.{live, joined, over_to}
 use Rattle.rules.specs.Neighbours.{rule12_course}
 use Rattle.frame.specs.State.{held, year_in, step_in}
-use Rattle.neighbours.proofs.CourseLaws.{sound_is, sizes_are, rule_is, order_is, state_there, open_there, given}
 use Rattle.neighbours.proofs.courses.each_course.Given as goal
 
 abbrev pub invariant-loop-i : goal.invariant-loop-i

@@ -1,11 +1,9 @@
 -- The loop's invariant: no course from `start` on and before i has a verdict.
 use Prim.Native.Nat.{ℕ, ◌+◌, ◌-◌, ◌≤◌, ◌<◌}
 use mathlib.Core.Bool.{true, false}
-use mathlib.Core.Logic.{⊎_elim}
 use mathlib.Core.Path.{◌≡◌, sym, ap, subst, ◌∙◌}
 use native.Mathlib.Omega.{arith}
 use native.Mathlib.Decide.{ℕ_discrete}
-use borrow.Author.Rules.{rules}
 use Rattle.rules.specs.declared.Verdict.{Verdict}
 use Rattle.rules.specs.declared.Verdict.TheVariants.{Stays}
 use Rattle.year.specs.Year.{is_open}
@@ -13,7 +11,7 @@ use Rattle.year.specs.declared.Course.{Course}
 use Rattle.neighbours.specs.Lightest.{Lent}
 use Rattle.neighbours.specs.Opened.{at, open_in}
 use Rattle.neighbours.specs.Verdicts.{verdict_in, verdict_by}
-use Rattle.neighbours.proofs.ColumnLaws.{closed_stays, place_few, some_open, count_few, rest_lent, verdict_is}
+use Rattle.neighbours.proofs.ColumnLaws.{closed_stays, some_open, count_few, rest_lent, verdict_is}
 use Rattle.neighbours.proofs.courses.first_of.Goals as goal
 use Rattle.neighbours.proofs.courses.first_of.Goals.{After-is_open, At-loop-i, In-loop-i, Start, then-is_open+in-Stays, else-is_open}
 

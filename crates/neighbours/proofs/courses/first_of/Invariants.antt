@@ -1,18 +1,8 @@
 -- The loop's invariant: no course from `start` on and before i has a verdict.
-use Prim.Native.Nat.{ℕ, ◌+◌, ◌-◌, ◌≤◌, ◌<◌}
-use mathlib.Core.Bool.{true}
-use mathlib.Core.Logic.{⊎_elim}
-use mathlib.Core.Path.{◌≡◌, sym, ap, subst, ◌∙◌}
-use native.Mathlib.Omega.{arith}
-use native.Mathlib.Decide.{ℕ_discrete}
-use borrow.Author.Rules.{rules}
+use Prim.Native.Nat.{ℕ, ◌-◌, ◌≤◌, ◌<◌}
+use mathlib.Core.Path.{◌≡◌}
 use Rattle.rules.specs.declared.Verdict.TheVariants.{Stays}
-use Rattle.year.specs.Year.{is_open}
-use Rattle.year.specs.declared.Course.{Course}
-use Rattle.neighbours.specs.Lightest.{Lent}
-use Rattle.neighbours.specs.Opened.{at, open_in}
-use Rattle.neighbours.specs.Verdicts.{verdict_in, verdict_by}
-use Rattle.neighbours.proofs.ColumnLaws.{closed_stays, place_few, some_open, count_few, rest_lent, verdict_is}
+use Rattle.neighbours.specs.Verdicts.{verdict_in}
 use Rattle.neighbours.proofs.courses.first_of.Given as goal
 
 abbrev pub invariant-loop-i : goal.invariant-loop-i

@@ -1,9 +1,8 @@
 -- The open courses of the state's year are gathered: the first with a verdict is looked for where it can fire on some rest of them.
-use Prim.Native.Nat.{ℕ, ◌≤◌, ◌<◌}
+use Prim.Native.Nat.{ℕ, ◌≤◌}
 use mathlib.Core.List.{List}
 use mathlib.Core.Path.{◌≡◌, sym, ap₂, ◌∙◌, subst}
 use native.Mathlib.Omega.{arith}
-use borrow.Author.Rules.{rules}
 use Rattle.year.specs.declared.Year.{Year}
 use Rattle.rules.specs.Neighbours as rule
 use Rattle.frame.specs.State.{year_in}

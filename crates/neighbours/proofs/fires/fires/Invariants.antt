@@ -1,14 +1,9 @@
 -- The loop's invariant: with none of the first k' does it fire.
-use Prim.Native.Nat.{ℕ, ◌+◌, ◌-◌, ◌≤◌, ◌<◌}
-use mathlib.Core.Bool.{Bool, false}
-use mathlib.Core.Logic.{⊎_elim}
-use mathlib.Core.Path.{◌≡◌, sym, ◌∙◌}
-use native.Mathlib.Omega.{arith}
-use borrow.Author.Rules.{rules}
+use Prim.Native.Nat.{◌-◌, ◌≤◌}
+use mathlib.Core.Bool.{false}
+use mathlib.Core.Path.{◌≡◌}
 use Rattle.theory.specs.Tests.{any}
-use Rattle.theory.proofs.TestLaws.{any_of}
-use Rattle.neighbours.specs.Lightest.{left_out, neighbours_by, fires_by}
-use Rattle.neighbours.proofs.FiresLaws.{readable, within, some_are, none_below_0, none_behind, no_gap, none_from, none_more}
+use Rattle.neighbours.specs.Lightest.{left_out, neighbours_by}
 use Rattle.neighbours.proofs.fires.fires.Given as goal
 
 abbrev pub invariant-loop-k2 : goal.invariant-loop-k2

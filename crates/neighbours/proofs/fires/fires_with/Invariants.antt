@@ -1,13 +1,9 @@
 -- The loop's invariant: with none of the first k does it fire. It ends at the first k at which the heaviest reach the range.
-use Prim.Native.Nat.{ℕ, ◌+◌, ◌-◌, ◌≤◌}
-use mathlib.Core.Bool.{Bool, false}
-use mathlib.Core.Path.{◌≡◌, sym}
-use native.Mathlib.Omega.{arith}
-use borrow.Author.Rules.{rules}
+use Prim.Native.Nat.{◌+◌, ◌-◌, ◌≤◌}
+use mathlib.Core.Bool.{false}
+use mathlib.Core.Path.{◌≡◌}
 use Rattle.theory.specs.Tests.{any}
-use Rattle.theory.proofs.TestLaws.{any_of}
 use Rattle.neighbours.specs.Lightest.{left_out, neighbours_by}
-use Rattle.neighbours.proofs.FiresLaws.{readable, within, with_parts, too_light, heaviest_reach, too_many, none_from, none_more}
 use Rattle.neighbours.proofs.fires.fires_with.Given as goal
 
 abbrev pub invariant-loop-k : goal.invariant-loop-k

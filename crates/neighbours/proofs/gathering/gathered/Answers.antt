@@ -1,9 +1,8 @@
 -- The loop's invariant: what is kept gathers the open courses of the first k places.
-use Prim.Native.Nat.{◌-◌, ◌*◌, ◌≤◌, ◌<◌}
+use Prim.Native.Nat.{◌*◌, ◌≤◌, ◌<◌}
 use mathlib.Core.Path.{◌≡◌, refl, ap, ◌∙◌, subst}
 use native.Mathlib.Omega.{arith}
 use lib.ListN.{replicate}
-use borrow.Author.Rules.{rules}
 use Rattle.theory.specs.Order.{keep}
 use Rattle.year.specs.Year.{is_open}
 use Rattle.neighbours.specs.Opened.{at, open_in, opened, Gathers}

@@ -1,10 +1,9 @@
 -- The loop's invariant: of the first t, none exceeds by more than the width what all before it weigh but the heaviest of those.
-use Prim.Native.Nat.{ℕ, ◌+◌, ◌-◌, ◌≤◌, ◌<◌}
+use Prim.Native.Nat.{ℕ, ◌+◌, ◌-◌, ◌≤◌}
 use mathlib.Core.Bool.{true≢false}
 use mathlib.Core.Path.{sym}
 use native.Mathlib.Omega.{arith}
 use lib.Dec.{ltb}
-use borrow.Author.Rules.{rules}
 use borrow.Author.Tests.{ltb-false}
 use Rattle.theory.proofs.TestLaws.{or_false}
 use Rattle.neighbours.specs.Opened.{at}

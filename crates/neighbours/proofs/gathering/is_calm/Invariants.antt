@@ -1,15 +1,6 @@
 -- The loop's invariant: of the first t, none exceeds by more than the width what all before it weigh but the heaviest of those.
 use Prim.Native.Nat.{ℕ, ◌+◌, ◌-◌, ◌≤◌, ◌<◌}
-use mathlib.Core.Bool.{true≢false}
-use mathlib.Core.Path.{sym}
-use native.Mathlib.Omega.{arith}
-use lib.Dec.{ltb}
-use borrow.Author.Rules.{rules}
-use borrow.Author.Tests.{ltb-false}
-use Rattle.theory.proofs.TestLaws.{or_false}
 use Rattle.neighbours.specs.Opened.{at}
-use Rattle.neighbours.proofs.FiresLaws.{rises}
-use Rattle.neighbours.proofs.GatheringLaws.{first, flat_more, calm_of, calm_from}
 use Rattle.neighbours.proofs.gathering.is_calm.Given as goal
 
 abbrev pub invariant-loop-t : goal.invariant-loop-t

@@ -1,9 +1,8 @@
 -- The loop's invariant: no course from place k on is open.
-use Prim.Native.Nat.{ℕ, ◌-◌, ◌≤◌, ◌<◌}
+use Prim.Native.Nat.{◌-◌}
 use mathlib.Core.Bool.{false}
 use mathlib.Core.Path.{◌≡◌, sym, ap, ◌∙◌}
 use native.Mathlib.Omega.{arith}
-use borrow.Author.Rules.{rules}
 use Rattle.year.specs.Year.{is_open}
 use Rattle.neighbours.specs.Opened.{at, open_in}
 use Rattle.neighbours.proofs.GatheringLaws.{none_from}

@@ -1,12 +1,8 @@
 -- The loop's invariant: no course from place k on is open.
-use Prim.Native.Nat.{ℕ, ◌-◌, ◌≤◌, ◌<◌}
+use Prim.Native.Nat.{ℕ, ◌≤◌, ◌<◌}
 use mathlib.Core.Bool.{false}
-use mathlib.Core.Path.{◌≡◌, sym, ap, ◌∙◌}
-use native.Mathlib.Omega.{arith}
-use borrow.Author.Rules.{rules}
-use Rattle.year.specs.Year.{is_open}
+use mathlib.Core.Path.{◌≡◌}
 use Rattle.neighbours.specs.Opened.{at, open_in}
-use Rattle.neighbours.proofs.GatheringLaws.{none_from}
 use Rattle.neighbours.proofs.gathering.last_open.Given as goal
 
 abbrev pub invariant-loop-k : goal.invariant-loop-k

@@ -3,12 +3,11 @@ use Prim.Native.Nat.{◌+◌, ◌-◌, ◌≤◌, ◌<◌}
 use mathlib.Core.Bool.{true≢false}
 use mathlib.Core.Logic.{⊎_map}
 use native.Mathlib.Omega.{arith}
-use borrow.Author.Rules.{rules}
 use borrow.Author.Tests.{leb-true}
 use Rattle.theory.proofs.TestLaws.{or_true}
 use Rattle.neighbours.specs.Opened.{at}
 use Rattle.neighbours.proofs.FiresLaws.{rises}
-use Rattle.neighbours.proofs.ScreenLaws.{QuietBelow, quiet_more, quiet_on}
+use Rattle.neighbours.proofs.ScreenLaws.{quiet_more, quiet_on}
 use Rattle.neighbours.proofs.screen.may_fire.Goals as goal
 use Rattle.neighbours.proofs.screen.may_fire.Goals.{At-loop-k2, Else-n-eq0, In-loop-k2, Start}
 

@@ -1,14 +1,7 @@
 -- The loop's invariant: no k' so far shows anything.
-use Prim.Native.Nat.{◌+◌, ◌-◌, ◌≤◌, ◌<◌}
-use mathlib.Core.Bool.{true≢false}
-use mathlib.Core.Logic.{⊎_map}
-use native.Mathlib.Omega.{arith}
-use borrow.Author.Rules.{rules}
-use borrow.Author.Tests.{leb-true}
-use Rattle.theory.proofs.TestLaws.{or_true}
+use Prim.Native.Nat.{◌-◌, ◌<◌}
 use Rattle.neighbours.specs.Opened.{at}
-use Rattle.neighbours.proofs.FiresLaws.{rises}
-use Rattle.neighbours.proofs.ScreenLaws.{QuietBelow, quiet_more, quiet_on}
+use Rattle.neighbours.proofs.ScreenLaws.{QuietBelow}
 use Rattle.neighbours.proofs.screen.may_fire.Given as goal
 
 abbrev pub invariant-loop-k2 : goal.invariant-loop-k2

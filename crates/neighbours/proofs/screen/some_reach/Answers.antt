@@ -1,11 +1,10 @@
 -- The loop's invariant: no k so far reaches.
-use Prim.Native.Nat.{◌+◌, ◌-◌, ◌≤◌, ◌<◌}
+use Prim.Native.Nat.{◌+◌, ◌-◌, ◌≤◌}
 use mathlib.Core.Bool.{true≢false}
 use native.Mathlib.Omega.{arith}
-use borrow.Author.Rules.{rules}
 use Rattle.neighbours.specs.Opened.{at}
 use Rattle.neighbours.proofs.FiresLaws.{rises}
-use Rattle.neighbours.proofs.ScreenLaws.{Below, one_more, none_on, none_left}
+use Rattle.neighbours.proofs.ScreenLaws.{one_more, none_on, none_left}
 use Rattle.neighbours.proofs.screen.some_reach.Goals as goal
 use Rattle.neighbours.proofs.screen.some_reach.Goals.{At-loop-k, In-loop-k, Start}
 

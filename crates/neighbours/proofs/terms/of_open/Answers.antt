@@ -1,7 +1,6 @@
 -- What is gathered are the open courses: their sums are calm, or it fires on all of them, or can on some rest, or on none.
 use mathlib.Core.Path.{◌≡◌, sym, ◌∙◌, subst}
 use native.Mathlib.Omega.{arith}
-use borrow.Author.Rules.{rules}
 use Rattle.theory.specs.Neighbours.{fires}
 use Rattle.neighbours.specs.Opened.{at, opened, Ordered, Gathers}
 use Rattle.neighbours.specs.Verdicts.{set_in}

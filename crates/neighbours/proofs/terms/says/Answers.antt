@@ -4,7 +4,6 @@ use mathlib.Core.Bool.{true≢false}
 use mathlib.Core.Path.{refl, sym, ◌∙◌, subst}
 use native.Mathlib.Omega.{arith}
 use lib.Dec.{leb}
-use borrow.Author.Rules.{rules}
 use borrow.Author.Tests.{lt-ltb, leb-true}
 use Rattle.theory.proofs.TestLaws.{and_true}
 use Rattle.neighbours.specs.Opened.{Ordered}

@@ -1,8 +1,5 @@
 -- A term with no plan, and one whose courses are gone through.
-use mathlib.Core.List.{[], ◌∷◌}
 use mathlib.Core.Path.{◌≡◌, ◌∙◌}
-use types.Run.{miss}
-use borrow.Author.Rules.{rules}
 use Rattle.neighbours.specs.declared.Says.TheVariants.{NoPlan}
 use Rattle.neighbours.proofs.RuleLaws.{no_plan, courses_are}
 use Rattle.neighbours.proofs.terms.term_judged.Goals as goal
