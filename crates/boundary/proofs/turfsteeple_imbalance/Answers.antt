@@ -3,7 +3,6 @@ use mathlib.Core.Path.{sym, ap, ◌∙◌}
 use Rattle.records.specs.declared.Received.{Received}
 use Rattle.boundary.proofs.CallLaws as law
 use Rattle.boundary.proofs.SmallLaws.{place_small}
-use borrow.Author.Rules.{rules}
 use Rattle.boundary.proofs.turfsteeple_imbalance.Goals as goal
 
 pub imbalance-requires : goal.imbalance-requires

@@ -1,7 +1,4 @@
 -- `turfsteeple_join`: two lists that do not join, then a short buffer, then the year is written.
-use borrow.Author.Rules.{rules}
-use types.Run.{miss}
-use mathlib.Core.List.{[], ◌∷◌}
 use mathlib.Core.Path.{◌≡◌}
 use native.Mathlib.Omega.{arith}
 use Rattle.hours.specs.declared.Joining.TheVariants.{Done}

@@ -3,7 +3,6 @@ use mathlib.Core.Path.{sym, ap, ◌∙◌}
 use Rattle.records.specs.declared.Received.{Received}
 use Rattle.boundary.proofs.CallLaws as law
 use Rattle.boundary.proofs.SmallLaws.{place_small}
-use borrow.Author.Rules.{rules}
 use Rattle.boundary.proofs.turfsteeple_narrow.Goals as goal
 
 pub returns-then-out-list : goal.returns-then-out-list

@@ -1,7 +1,6 @@
 -- `turfsteeple_read`: the code of what reading answers.
 use Rattle.boundary.proofs.CallLaws as law
 use Rattle.boundary.proofs.SmallLaws.{answer_small}
-use borrow.Author.Rules.{rules}
 use Rattle.boundary.proofs.turfsteeple_read.Goals as goal
 
 pub reading-requires : goal.reading-requires

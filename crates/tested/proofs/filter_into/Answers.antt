@@ -7,7 +7,6 @@ use Rattle.filter.specs.declared.Filtered.{Filtered}
 use Rattle.boundary.specs.Packed.{answer_detail}
 use Rattle.boundary.proofs.SmallLaws.{detail_small}
 use Rattle.boundary.proofs.IntoLaws.{filter_ends, filtered_fits}
-use borrow.Author.Rules.{rules}
 use Rattle.tested.proofs.filter_into.Goals as goal
 use Rattle.tested.proofs.filter_into.Goals.{After-filter-f}
 

@@ -4,7 +4,6 @@ use Rattle.records.specs.declared.Received.{Received}
 use Rattle.boundary.proofs.CallLaws as law
 use Rattle.boundary.proofs.SmallLaws.{place_small}
 use native.Mathlib.Omega.{arith}
-use borrow.Author.Rules.{rules}
 use Rattle.tested.proofs.tested_filter.Goals as goal
 
 pub returns-then-out-list : goal.returns-then-out-list

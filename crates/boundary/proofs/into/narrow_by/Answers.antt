@@ -2,7 +2,6 @@
 use borrow.Author.Tests.{eq-eqb, ne_eqb}
 use mathlib.Core.Path.{refl}
 use Rattle.boundary.specs.Calls.{narrow_of}
-use borrow.Author.Rules.{rules}
 use Rattle.boundary.proofs.into.narrow_by.Goals as goal
 
 pub returns-then-kind-eq0 : goal.returns-then-kind-eq0

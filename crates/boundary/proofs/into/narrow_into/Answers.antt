@@ -1,7 +1,6 @@
 -- `into::narrow_into`: what is done is written, every refusal leaves the buffer.
 use mathlib.Core.Path.{refl}
 use Rattle.boundary.proofs.IntoLaws.{narrow_ends}
-use borrow.Author.Rules.{rules}
 use Rattle.boundary.proofs.into.narrow_into.Goals as goal
 
 pub returns-in-Done : goal.returns-in-Done
