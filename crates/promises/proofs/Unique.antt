@@ -2,10 +2,10 @@
 use mathlib.Core.Path.{◌≡◌, sym, ◌∙◌}
 use Rattle.promises.specs.Unique.{One, result, OneResult}
 
-by_one : {A R E : Type 0} (d : A → R) → One {A = A} {R = R} {E = E} (λ a. Unit {0}) (λ a r e. r ≡ d a) result
+pub by_one : {A R E : Type 0} (d : A → R) → One {A = A} {R = R} {E = E} (λ a. Unit {0}) (λ a r e. r ≡ d a) result
 by_one d = record { asks_nothing = λ a. tt; one_end = λ a r s e f p q. p ∙ sym q }
 
-by_two : {A R E L : Type 0} (d : A → R) (l : A → L) (left : E → L)
+pub by_two : {A R E L : Type 0} (d : A → R) (l : A → L) (left : E → L)
     → One {A = A} {R = R} {E = E} {S = R × L} (λ a. Unit {0}) (λ a r e. (r ≡ d a) × (left e ≡ l a)) (λ r e. (r, left e))
 by_two d l left = record { asks_nothing = λ a. tt; one_end = λ a r s e f p q i. ((p.0 ∙ sym q.0) i, (p.1 ∙ sym q.1) i) }
 

@@ -1,0 +1,2 @@
+-- What is promised of the exports.
+pub mod Exported
