@@ -1,2 +1,3 @@
--- What is promised of the exports.
+-- What is promised of the exports, and its proof.
+pub mod Exports
 pub mod Exported
