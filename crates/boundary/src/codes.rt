@@ -1,18 +1,19 @@
 // Answers packed into one number.
-ghost use Rattle.std.specs.Prelude.{◌≡◌, ◌<◌, ◌^◌};
+ghost use Rattle.std.specs.Prelude.{◌≡◌, ◌<◌, ◌^◌, Err, Result};
 ghost use Rattle.year.specs.Imbalance.{imbalance_of};
 ghost use Rattle.year.specs.Sound.{Sound};
 ghost use Rattle.records.specs.Numbers.{reading_place};
-ghost use Rattle.records.specs.declared.Reading.TheVariants as reading;
 ghost use Rattle.hours.specs.Numbers.{joining_place};
 ghost use Rattle.boundary.specs.Packed.{told, packed, reading_told, joining_told, narrowing_told, measured_told, answer_detail, answer_told};
 
 use filter::Answer;
-use hours::Joining;
-use records::{Fault, Reading};
-use year::{Measured, Narrowing, Year};
+use hours::JoiningRefusal;
+use records::Refusal;
+use year::{ImbalanceRefusal, NarrowingRefusal, Year};
 
-// The answer to a buffer that is too short.
+// The answer of a call that is done and has nothing to tell, and to a buffer that is too short.
+pub const DONE: u64 = 0;
+
 pub const SHORT: u64 = 9;
 
 // Number, detail and value in one: a byte, a byte and 48 bits.
@@ -20,47 +21,46 @@ fn pack(number: u64, detail: u32, value: u64) -> u64
     requires { (number < 256) × (detail < 256) × (value < 2 ^ 48) }
     ensures { result ≡ packed (told number detail value) }
 {
-    number + detail as u64 * 256 + value * 65536
+    number + u64::from(detail) * 256 + value * 65536
 }
 
 // A refused list.
-pub fn refused(f: Fault, k: usize) -> u64
-    requires { k < 4294967296 }
-    ensures { result ≡ packed (reading_told (reading.Refused f k)) }
+pub fn refused(refusal: Refusal) -> u64
+    requires { refusal.record < 4294967296 }
+    ensures { result ≡ packed (reading_told (Err refusal)) }
 {
-    pack(records::fault_number(f) as u64, 0, k as u64)
+    pack(
+        u64::from(records::fault_number(refusal.fault)),
+        0,
+        refusal.record as u64,
+    )
 }
 
-pub fn reading(a: Reading) -> u64
-    requires { reading_place a < 4294967296 }
-    ensures { result ≡ packed (reading_told a) }
+// Two lists that do not join.
+pub fn unjoined(refusal: JoiningRefusal) -> u64
+    requires { joining_place (Err refusal) < 4294967296 }
+    ensures { result ≡ packed (joining_told (Err refusal)) }
 {
-    match a {
-        Reading::Done => 0,
-        Reading::Refused(f, k) => refused(f, k),
-    }
+    let (list, at_fault) = match refusal {
+        JoiningRefusal::InTerms(r) => (1, r),
+        JoiningRefusal::InHours(r) => (2, r),
+    };
+    pack(
+        u64::from(records::fault_number(at_fault.fault)),
+        list,
+        at_fault.record as u64,
+    )
 }
 
-pub fn joining(a: Joining) -> u64
-    requires { joining_place a < 4294967296 }
-    ensures { result ≡ packed (joining_told a) }
+pub fn narrowing(answer: Result<(), NarrowingRefusal>) -> u64
+    ensures { result ≡ packed (narrowing_told answer) }
 {
-    match a {
-        Joining::Done => 0,
-        Joining::InTerms(f, k) => pack(records::fault_number(f) as u64, 1, k as u64),
-        Joining::InHours(f, k) => pack(records::fault_number(f) as u64, 2, k as u64),
-    }
-}
-
-pub fn narrowing(a: Narrowing) -> u64
-    ensures { result ≡ packed (narrowing_told a) }
-{
-    match a {
-        Narrowing::Done => 0,
-        Narrowing::Unsound => 8,
-        Narrowing::Missing => 10,
-        Narrowing::Outside => 11,
-        Narrowing::Crossing => 12,
+    match answer {
+        Ok(()) => DONE,
+        Err(NarrowingRefusal::Unsound) => 8,
+        Err(NarrowingRefusal::Missing) => 10,
+        Err(NarrowingRefusal::Outside) => 11,
+        Err(NarrowingRefusal::Crossing) => 12,
     }
 }
 
@@ -69,11 +69,10 @@ pub fn imbalance(y: Year) -> u64
     requires { Sound y }
     ensures { result ≡ packed (measured_told (imbalance_of y)) }
 {
-    let m = totals::measure::imbalance_sound(y);
-    match m {
-        Measured::Imbalance(v) => pack(0, 0, v),
-        Measured::Unsound => 8,
-        Measured::Unsettled => 14,
+    match totals::measure::imbalance_sound(y) {
+        Ok(v) => pack(0, 0, v),
+        Err(ImbalanceRefusal::Unsound) => 8,
+        Err(ImbalanceRefusal::Unsettled) => 14,
     }
 }
 
@@ -82,9 +81,9 @@ pub fn answer(a: Answer) -> u64
     ensures { result ≡ packed (answer_told a) }
 {
     match a {
-        Answer::Settled(n) => pack(0, 1, n as u64),
-        Answer::Open(n) => pack(0, 2, n as u64),
-        Answer::NoPlan(rule, n) => pack(13, rule, n as u64),
+        Answer::Settled(n) => pack(0, 1, u64::from(n)),
+        Answer::Open(n) => pack(0, 2, u64::from(n)),
+        Answer::NoPlan(rule, n) => pack(13, rule.number(), u64::from(n)),
         Answer::Unsound => 8,
     }
 }

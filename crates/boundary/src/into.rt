@@ -6,78 +6,39 @@ ghost use Rattle.boundary.specs.Packed.{packed, narrowing_told, answer_told};
 ghost use Rattle.boundary.specs.Calls.{filter_left, narrow_of, narrow_left};
 
 use crate::codes;
-use filter::Answer;
-use year::{Courses, Credits, Narrowed, Narrowing, Year};
+use crate::kinds::Kind;
+use filter::{Answer, Filtered};
+use year::{Narrowed, NarrowingRefusal, Year};
 
-// Filters a year that was read into a list as long as the one that it was read from.
-pub fn filter_into(y: Year, out: &mut [u8]) -> u64
+// Filters a year that was read into a list as long as the one that it was read from, by any filtering that gives of it what the
+// definition gives.
+pub fn filter_into<F: FnOnce(Year) -> Filtered>(y: Year, filtering: F, out: &mut [u8]) -> u64
     requires sound { Sound y }
-    requires courses_in_bounds { (y.terms + y.courses) * 16 ≤ length out.old }
+    requires room { (y.terms + y.courses) * 16 ≤ length out.old }
+    requires may_filter { F.pre filtering y }
+    requires filters { (f : _) → F.post filtering y f → f ≡ filter_of y }
     ensures value { result ≡ packed (answer_told (filter_of y).answer) }
     ensures out_after { out.new ≡ filter_left (filter_of y).answer (filter_of y).year out.old }
 {
-    let f = filter::filter_sound(y);
-    let a = f.answer;
-    let z = f.year;
-    let code = codes::answer(a);
-    match a {
-        Answer::Settled(_) => {
-            records::write_sound(z, out);
-            code
-        }
-        Answer::Open(_) => {
-            records::write_sound(z, out);
-            code
-        }
-        Answer::NoPlan(_, _) => code,
-        Answer::Unsound => code,
+    let Filtered { answer, year } = filtering(y);
+    match answer {
+        Answer::Settled(_) | Answer::Open(_) => records::write_sound(year, out),
+        Answer::NoPlan(_, _) | Answer::Unsound => {}
     }
+    codes::answer(answer)
 }
 
-// The narrowing of a kind. Of a kind past the last there is none.
-fn narrow_by(y: Year, kind: u32, a: u32, b: u32) -> Narrowed
-    ensures { result ≡ narrow_of y kind a b }
-{
-    if kind == 0 {
-        return y.place(a as usize, b as usize);
-    }
-    if kind == 1 {
-        return y.bar(a as usize, b as usize);
-    }
-    if kind == 2 {
-        return y.raise_low_credits(a as usize, Credits(b));
-    }
-    if kind == 3 {
-        return y.lower_high_credits(a as usize, Credits(b));
-    }
-    if kind == 4 {
-        return y.raise_low_count(a as usize, Courses(b));
-    }
-    if kind == 5 {
-        return y.lower_high_count(a as usize, Courses(b));
-    }
-    Narrowed {
-        answer: Narrowing::Missing,
-        year: y,
-    }
-}
-
+// Of a kind past the last there is no narrowing.
 pub fn narrow_into(y: Year, kind: u32, a: u32, b: u32, out: &mut [u8]) -> u64
     ensures value { result ≡ packed (narrowing_told (narrow_of y kind a b).answer) }
     ensures out_after { out.new ≡ narrow_left (narrow_of y kind a b).answer (narrow_of y kind a b).year out.old }
 {
-    let n = narrow_by(y, kind, a, b);
-    let r = n.answer;
-    let z = n.year;
-    let code = codes::narrowing(r);
-    match r {
-        Narrowing::Done => {
-            records::write(z, out);
-            code
-        }
-        Narrowing::Unsound => code,
-        Narrowing::Missing => code,
-        Narrowing::Outside => code,
-        Narrowing::Crossing => code,
+    let Ok(kind) = Kind::try_from(kind) else {
+        return codes::narrowing(Err(NarrowingRefusal::Missing));
+    };
+    let Narrowed { answer, year } = kind.narrow(y, a, b);
+    if answer.is_ok() {
+        let _ = records::write(year, out);
     }
+    codes::narrowing(answer)
 }

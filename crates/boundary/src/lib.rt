@@ -6,20 +6,24 @@
 
 pub mod codes;
 mod into;
+pub mod kinds;
 
 ghost use Rattle.std.specs.Prelude.{◌≡◌, length};
+ghost use Rattle.year.specs.Sound.{Sound};
+ghost use Rattle.filter.specs.Filter.{filter_of};
 ghost use Rattle.boundary.specs.Calls.{read_code, filter_code, filter_out, narrow_code, narrow_out, imbalance_code, join_code, join_out};
 
-use hours::Joining;
-use records::Reading;
+use filter::Filtered;
+use year::Year;
 
 // Reads a list.
 pub fn turfsteeple_read(list: &[u8]) -> u64
     ensures { result ≡ read_code list.now }
 {
-    let got = records::read(list);
-    let a = got.answer;
-    codes::reading(a)
+    match records::read(list) {
+        Ok(_) => codes::DONE,
+        Err(refusal) => codes::refused(refusal),
+    }
 }
 
 // Filters the year of a list into a lent list.
@@ -27,17 +31,20 @@ pub fn turfsteeple_filter(list: &[u8], out: &mut [u8]) -> u64
     ensures value { result ≡ filter_code list.now (length out.old) }
     ensures out_after { out.new ≡ filter_out list.now out.old }
 {
-    let got = records::read(list);
-    let a = got.answer;
-    match a {
-        Reading::Done => {
-            if out.len() < list.len() {
-                return codes::SHORT;
-            }
-            let y = got.year;
-            into::filter_into(y, out)
-        }
-        Reading::Refused(f, k) => codes::refused(f, k),
+    filter_by(list, filter::filter_sound, out)
+}
+
+// The same by any filtering that gives of a sound year what the definition gives.
+pub fn filter_by<F: FnOnce(Year) -> Filtered>(list: &[u8], filtering: F, out: &mut [u8]) -> u64
+    requires may_filter { (y : Year) → Sound y → F.pre filtering y }
+    requires filters { (y : Year) (f : Filtered) → F.post filtering y f → f ≡ filter_of y }
+    ensures value { result ≡ filter_code list.now (length out.old) }
+    ensures out_after { out.new ≡ filter_out list.now out.old }
+{
+    match records::read(list) {
+        Ok(_) if out.len() < list.len() => codes::SHORT,
+        Ok(year) => into::filter_into(year, filtering, out),
+        Err(refusal) => codes::refused(refusal),
     }
 }
 
@@ -46,17 +53,10 @@ pub fn turfsteeple_narrow(list: &[u8], kind: u32, a: u32, b: u32, out: &mut [u8]
     ensures value { result ≡ narrow_code list.now kind a b (length out.old) }
     ensures out_after { out.new ≡ narrow_out list.now kind a b out.old }
 {
-    let got = records::read(list);
-    let r = got.answer;
-    match r {
-        Reading::Done => {
-            if out.len() < list.len() {
-                return codes::SHORT;
-            }
-            let y = got.year;
-            into::narrow_into(y, kind, a, b, out)
-        }
-        Reading::Refused(f, k) => codes::refused(f, k),
+    match records::read(list) {
+        Ok(_) if out.len() < list.len() => codes::SHORT,
+        Ok(year) => into::narrow_into(year, kind, a, b, out),
+        Err(refusal) => codes::refused(refusal),
     }
 }
 
@@ -64,14 +64,9 @@ pub fn turfsteeple_narrow(list: &[u8], kind: u32, a: u32, b: u32, out: &mut [u8]
 pub fn turfsteeple_imbalance(list: &[u8]) -> u64
     ensures { result ≡ imbalance_code list.now }
 {
-    let got = records::read(list);
-    let a = got.answer;
-    match a {
-        Reading::Done => {
-            let y = got.year;
-            codes::imbalance(y)
-        }
-        Reading::Refused(f, k) => codes::refused(f, k),
+    match records::read(list) {
+        Ok(year) => codes::imbalance(year),
+        Err(refusal) => codes::refused(refusal),
     }
 }
 
@@ -80,15 +75,12 @@ pub fn turfsteeple_join(terms: &[u8], hours: &[u8], out: &mut [u8]) -> u64
     ensures value { result ≡ join_code terms.now hours.now (length out.old) }
     ensures out_after { out.new ≡ join_out terms.now hours.now out.old }
 {
-    let got = hours::join(terms, hours);
-    let a = got.answer;
-    if let Joining::Done = a {} else {
-        return codes::joining(a);
+    match hours::join(terms, hours) {
+        Ok(_) if out.len() < terms.len() + hours.len() => codes::SHORT,
+        Ok(year) => {
+            records::write_sound(year, out);
+            codes::DONE
+        }
+        Err(refusal) => codes::unjoined(refusal),
     }
-    if out.len() < terms.len() + hours.len() {
-        return codes::SHORT;
-    }
-    let y = got.year;
-    records::write_sound(y, out);
-    codes::joining(a)
 }

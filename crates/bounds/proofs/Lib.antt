@@ -1,3 +1,3 @@
 -- Laws for the proofs of the code.
 pub mod AtTermLaws
-pub mod BoundsRows
+pub mod TurnLaws

@@ -1,9 +1,7 @@
 -- Rules 1, 2, 4 and 5 on the values that they read: a term, its sums, and the sums of the bounds over all terms.
 use Rattle.std.specs.Prelude.{ℕ, ◌+◌, ◌-◌, false, List, ltb}
 use Rattle.theory.specs.Sum.{sum}
-use Rattle.frame.specs.Bounds.{term_in, low_in, high_in, least_in, most_in, outcome}
-use Rattle.frame.specs.declared.Outcome.{Outcome}
-use Rattle.year.specs.Sums.{sums_in}
+use Rattle.frame.specs.Bounds.{low_in, high_in, least_in, most_in, outcome, Outcome}
 use Rattle.year.specs.Bound.{bound_of}
 use Rattle.year.specs.Within.{within}
 use Rattle.year.specs.declared.Quantity.{Quantity}
@@ -12,9 +10,10 @@ use Rattle.year.specs.declared.Side.{Side}
 use Rattle.year.specs.declared.Side.TheVariants.{Low, High}
 use Rattle.year.specs.declared.Term.{Term}
 use Rattle.year.specs.declared.Sums.{Sums}
+use Rattle.year.specs.declared.Year.{Year}
+use Rattle.rules.specs.Step.{Step}
+use Rattle.rules.specs.Bounds.{rule1, rule2, rule4, rule5}
 use Rattle.bounds.specs.declared.Totals.{Totals}
-use Rattle.bounds.specs.declared.Whole.{Whole}
-use Rattle.bounds.specs.declared.Whole.TheVariants as whole
 
 -- ---- sums of bounds
 
@@ -84,14 +83,12 @@ abbrev pub other_terms_of : Quantity → Term → Totals → ℕ → Outcome
 other_terms_of q t x all =
     outcome (other_number q) (ltb all (others_in Low q x t)) t (within q t (all - others_in High q x t) (all - others_in Low q x t))
 
-abbrev pub other_terms_by : Whole → Term → Totals → Outcome
-other_terms_by (whole.Credits all) t x = other_terms_of Credits t x all.0
-other_terms_by (whole.Counts all) t x = other_terms_of Counts t x all.0
+-- ---- the paper's rules, by quantity
 
--- ---- at term j of an array, of which the first m are the year's
+abbrev pub own_rule : Quantity → Year → ℕ → Step
+own_rule Credits = rule1
+own_rule Counts = rule4
 
-abbrev pub own_sums_at : Quantity → List Sums → List Term → ℕ → Outcome
-own_sums_at q u t j = own_sums_of q (term_in t j) (sums_in u j)
-
-abbrev pub other_terms_at : ℕ → Whole → List Term → ℕ → Outcome
-other_terms_at m all t j = other_terms_by all (term_in t j) (totals_to t m)
+abbrev pub other_rule : Quantity → Year → ℕ → Step
+other_rule Credits = rule2
+other_rule Counts = rule5

@@ -11,10 +11,10 @@ const LONGEST_NAME: usize = 4096;
 
 // Opens a file to read it. std takes no path that is not UTF-8.
 fn open<R: Files>(files: &R, name: &[u8]) -> io::Result<R::File> {
-    match str::from_utf8(name) {
-        Ok(path) => fs::open(files, path),
-        Err(_) => Err(io::Error::from(ErrorKind::InvalidFilename)),
-    }
+    let Ok(path) = str::from_utf8(name) else {
+        return Err(io::Error::from(ErrorKind::InvalidFilename));
+    };
+    fs::open(files, path)
 }
 
 // A file that cannot be opened has its name and no listing, and is told of on standard error.

@@ -18,16 +18,19 @@ use Rattle.year.specs.declared.Year.{Year}
 use Rattle.records.specs.Reading.{read_list}
 use Rattle.records.specs.Numbers.{fault_number}
 use Rattle.records.specs.Writing.{joined}
-use Rattle.records.specs.declared.Reading.{Reading}
-use Rattle.records.specs.declared.Reading.TheVariants as reading
+use Rattle.records.specs.declared.Refusal.{Refusal}
+use Rattle.records.proofs.ListLaws.{read_sound}
+use Rattle.rules.specs.RuleNumbers.{rule_number}
+use Rattle.std.specs.Prelude.{Ok, Err}
+use Rattle.std.specs.declared.result.Result.{Result}
 use Rattle.filter.specs.Filter.{filter_of}
 use Rattle.filter.proofs.RoundLaws.{answer_few}
 use Rattle.filter.specs.Numbers.{filter_number, filter_rounds}
 use Rattle.filter.specs.declared.Answer.{Answer}
 use Rattle.filter.specs.declared.Answer.TheVariants.{Settled, Open, NoPlan, Unsound}
-use Rattle.display.specs.Listing.{settled_word, open_word, no_plan_word, refused_word, term_word, course_word, term_line, course_line, term_line_at, course_line_at, year_text, pair_text, answer_text, filtered_text, listing_of, listed_of, listed_in}
+use Rattle.display.specs.Listing.{settled_word, open_word, no_plan_word, refused_word, term_word, course_word, term_line, course_line, term_line_at, course_line_at, year_text, pair_text, answer_text, listing_of, listed_of, listed_in}
 use Rattle.display.specs.Numbers.{listed_length}
-use Rattle.display.proofs.ListingLaws.{filtered_sound, received_by, received_sound}
+use Rattle.display.proofs.ListingLaws.{filtered_sound, received_by, refused_by}
 
 -- ---- digits
 
@@ -153,21 +156,18 @@ year_length word n y h few s =
 answer_length : (a : Answer) (y : Year) → filter_rounds a ≤ 1025985 → Sound y → length (answer_text a y) ≤ 3436
 answer_length (Settled n) y h s = year_length settled_word n y (omega arith) h s
 answer_length (Open n) y h s = year_length open_word n y (omega arith) h s
-answer_length (NoPlan r n) y h s = omega (arith, pair_length no_plan_word r n)
+answer_length (NoPlan r n) y h s = omega (arith, pair_length no_plan_word (rule_number r) n)
 answer_length Unsound y h s = omega (arith, pair_length refused_word (filter_number Unsound) 0)
 
 pub longest : (s : List ℕ) → length (listing_of s) ≤ 3436
-longest s = go (read_list s).answer refl
+longest s = go (read_list s) refl
   where
-    go : (a : Reading) → (read_list s).answer ≡ a → length (listing_of s) ≤ 3436
-    go reading.Done e =
-        let y = (read_list s).year in
-        let sound = received_sound s (read_list s) refl e in
-        rw (received_by s (read_list s) refl reading.Done e (filtered_text (filter_of y)) refl)
-        (answer_length (filter_of y).answer (filter_of y).year (answer_few y).1 (filtered_sound y (filter_of y) refl sound))
-    go (reading.Refused f k) e =
-        rw (received_by s (read_list s) refl (reading.Refused f k) e (pair_text refused_word (fault_number f) k) refl)
-        (omega (arith, pair_length refused_word (fault_number f) k))
+    go : (r : Result Year Refusal) → read_list s ≡ r → length (listing_of s) ≤ 3436
+    go (Ok y) e =
+        rw (received_by s y e)
+        (answer_length (filter_of y).answer (filter_of y).year (answer_few y).1 (filtered_sound y (filter_of y) refl (read_sound s y e)))
+    go (Err r) e =
+        rw (refused_by s r (fault_number r.fault) e refl) (omega (arith, pair_length refused_word (fault_number r.fault) r.record))
 
 -- a buffer of as many bytes is never too short: its front part, as long as the answer says, is the listing
 pub listing_whole : (s b : List ℕ) → length b ≡ 3436 → take (listed_length (listed_of s (length b))) (listed_in s b) ≡ listing_of s

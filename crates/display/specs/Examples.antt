@@ -1,10 +1,9 @@
 -- Closed examples, by computation: year E's six lines, each kind of answer, and a buffer that is one byte short.
-use Rattle.std.specs.Prelude.{ℕ, List, [], ◌∷◌, ◌++◌, ◌≡◌, refl, replicate}
+use Rattle.std.specs.Prelude.{ℕ, List, [], ◌∷◌, ◌++◌, ◌≡◌, refl, replicate, Ok, Err}
 use Rattle.text.specs.Text.{bytes}
 use Rattle.records.specs.Examples.{bytes_e}
 use Rattle.display.specs.Listing.{listing_of, listed_of, listed_in}
 use Rattle.display.specs.Computing.{computing}
-use Rattle.display.specs.declared.Listed.TheVariants.{Done, Short}
 
 -- ---- year E
 
@@ -22,10 +21,10 @@ unfolding computing
 year_e_lem = refl
 
 -- 59 bytes: the byte behind them stays; in a buffer of 58 every byte does
-pub year_e_written : (listed_of bytes_e 60 ≡ Done 59)
+pub year_e_written : (listed_of bytes_e 60 ≡ Ok 59)
     × (listed_in bytes_e (replicate 60 7) ≡ lines_e ++ 7 ∷ [])
-    × (listed_of bytes_e 59 ≡ Done 59)
-    × (listed_of bytes_e 58 ≡ Short)
+    × (listed_of bytes_e 59 ≡ Ok 59)
+    × (listed_of bytes_e 58 ≡ Err (record {}))
     × (listed_in bytes_e (replicate 58 7) ≡ replicate 58 7)
 unfolding computing
 year_e_written = (refl, refl, refl, refl, refl)

@@ -1,5 +1,6 @@
 -- The listing of a byte string as a text: the answer of its filtering and the filtered year, line by line, or why there is none.
-use Rattle.std.specs.Prelude.{ℕ, List, [], ◌∷◌, ◌++◌, leb, length, drop}
+use Rattle.std.specs.Prelude.{ℕ, List, [], ◌∷◌, ◌++◌, leb, length, drop, Ok, Err}
+use Rattle.std.specs.declared.result.Result.{Result}
 use Rattle.theory.specs.Choice.{choose}
 use Rattle.text.specs.Text.{bytes, newline, blank, row_of, line_of, terms_of}
 use Rattle.year.specs.Year.{term_at, course_at}
@@ -9,16 +10,14 @@ use Rattle.year.specs.declared.Year.{Year}
 use Rattle.records.specs.Numbers.{fault_number}
 use Rattle.records.specs.Reading.{read_list}
 use Rattle.records.specs.Writing.{joined}
-use Rattle.records.specs.declared.Reading.{Reading}
-use Rattle.records.specs.declared.Reading.TheVariants as reading
-use Rattle.records.specs.declared.Received.{Received}
+use Rattle.records.specs.declared.Refusal.{Refusal}
+use Rattle.rules.specs.RuleNumbers.{rule_number}
 use Rattle.filter.specs.Filter.{filter_of}
 use Rattle.filter.specs.Numbers.{filter_number}
 use Rattle.filter.specs.declared.Answer.{Answer}
 use Rattle.filter.specs.declared.Answer.TheVariants.{Settled, Open, NoPlan, Unsound}
 use Rattle.filter.specs.declared.Filtered.{Filtered}
-use Rattle.display.specs.declared.Listed.{Listed}
-use Rattle.display.specs.declared.Listed.TheVariants.{Done, Short}
+use Rattle.display.specs.declared.TooShort.{TooShort}
 
 -- ---- words
 
@@ -70,18 +69,15 @@ pair_text word a b = line_of word (a ∷ b ∷ [])
 abbrev pub answer_text : Answer → Year → List ℕ
 answer_text (Settled n) y = year_text settled_word n y
 answer_text (Open n) y = year_text open_word n y
-answer_text (NoPlan r n) y = pair_text no_plan_word r n
+answer_text (NoPlan r n) y = pair_text no_plan_word (rule_number r) n
 answer_text Unsound y = pair_text refused_word (filter_number Unsound) 0
 
 abbrev pub filtered_text : Filtered → List ℕ
 filtered_text f = answer_text f.answer f.year
 
-abbrev pub reading_text : Reading → Year → List ℕ
-reading_text reading.Done y = filtered_text (filter_of y)
-reading_text (reading.Refused f k) y = pair_text refused_word (fault_number f) k
-
-abbrev pub received_text : Received → List ℕ
-received_text r = reading_text r.answer r.year
+abbrev pub received_text : Result Year Refusal → List ℕ
+received_text (Ok y) = filtered_text (filter_of y)
+received_text (Err r) = pair_text refused_word (fault_number r.fault) r.record
 
 unfoldable pub listing_of : List ℕ → List ℕ
 listing_of s = received_text (read_list s)
@@ -89,8 +85,8 @@ listing_of s = received_text (read_list s)
 -- ---- the buffer
 
 -- refusal 9: a buffer shorter than the text
-unfoldable pub listed_of : List ℕ → ℕ → Listed
-listed_of s size = choose (leb (length (listing_of s)) size) (Done (length (listing_of s))) Short
+unfoldable pub listed_of : List ℕ → ℕ → Result ℕ TooShort
+listed_of s size = choose (leb (length (listing_of s)) size) (Ok (length (listing_of s))) (Err (record {}))
 
 -- what the buffer b holds afterwards: the text and then what stood behind it, or as before
 unfoldable pub listed_in : List ℕ → List ℕ → List ℕ

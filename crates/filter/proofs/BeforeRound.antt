@@ -1,170 +1,128 @@
 -- What holds before each round of a filtering, and what one more round makes of it: it ends the filtering, or the narrower holds before the next.
 use Prim.Native.Nat.{ℕ, ◌+◌, ◌≤◌, ◌<◌}
 use mathlib.Core.Bool.{true, false}
-use mathlib.Core.Path.{◌≡◌, refl, sym, ap, subst, ◌∙◌}
+use mathlib.Core.Path.{◌≡◌, sym, ap, subst, ◌∙◌}
 use native.Mathlib.Omega.{arith}
 use lib.Dec.{eqb}
-use borrow.Author.Tests.{eq-eqb, ne_eqb}
+use borrow.Author.Tests.{eq-eqb}
+use Rattle.std.specs.Prelude.{Option, None, Some, Err, IfSome}
 use Rattle.year.specs.Sums.{all_credits}
 use Rattle.year.specs.Sound.{Sound}
 use Rattle.year.specs.declared.Year.{Year}
 use Rattle.rules.specs.Step.{live, Step}
-use Rattle.frame.specs.State.{held, year_in, step_in}
-use Rattle.rules.specs.Round.{passes_of, passes_from, round}
+use Rattle.rules.specs.RuleNumbers.{rule_named}
+use Rattle.rules.specs.declared.Rule.{Rule}
+use Rattle.rules.proofs.RuleNumberLaws.{named_number}
+use Rattle.frame.specs.State.{year_in, step_in, step_of}
+use Rattle.rules.specs.Round.{round}
 use Rattle.frame.specs.declared.State.{State}
+use Rattle.frame.proofs.StateLaws.{dead_of}
 use Rattle.rules.proofs.Leeway.{leeway, leeway_most}
 use Rattle.rules.specs.Narrower.{Narrower}
-use Rattle.rules.proofs.Narrows.{narrower_self, narrower_then}
-use Rattle.rules.proofs.Passes.{row_narrower, row_last, lawful_part, lawful_from, narrows_round}
+use Rattle.rules.proofs.Narrows.{narrower_self, narrower_then, credits_same}
+use Rattle.rules.proofs.Passes.{narrows_round}
 use Rattle.orders.specs.Orders.{orders_in, orders_of}
 use Rattle.orders.specs.declared.Orders.{Orders}
 use Rattle.orders.proofs.OrderLaws.{orders_are, orders_weights}
 use Rattle.filter.specs.Filter.{filtered, at_rest, rounds_from}
-use Rattle.filter.specs.Halves.{first_half, second_half}
 use Rattle.filter.specs.declared.Answer.TheVariants.{NoPlan}
-use Rattle.filter.specs.declared.Filtered.{Filtered}
-use Rattle.filter.proofs.StateAt.{StateAt, state_sound, state_step, state_year, state_credits, state_rule}
-use Rattle.filter.proofs.RoundLaws.{halves, rounds_left, round_no_plan, round_at_rest, round_alters, round_falls}
+use Rattle.filter.proofs.RoundLaws.{rounds_left, round_no_plan, round_at_rest, round_alters, round_falls}
+
+-- the orders, if they have been computed, are those of the year's courses
+abbrev pub InOrder : Year → Option Orders → Type 0
+InOrder y o = IfSome o (λ p. p ≡ orders_of y)
+
+-- they stay those of a year of as many courses with the same weights
+pub in_order_still : (y z : Year) (o : Option Orders) → z.courses ≡ y.courses → z.weight ≡ y.weight → InOrder y o → InOrder z o
+in_order_still y z (Some p) c w e = e ∙ sym (orders_weights y z c w)
+in_order_still y z None c w e = tt
+
+pub in_order_at : (y : Year) (o : Option Orders) → InOrder y o → IfSome o (λ p. p ≡ orders_in y.weight y.courses)
+in_order_at y (Some p) e = e ∙ sym (orders_are y)
+in_order_at y None e = tt
 
 -- after n rounds, each of which altered something: what is left to do from the year at hand gives what the whole filtering
 -- gives, and the leeway of that year has fallen by at least one a round
-pub record BeforeRound (y : Year) (o : Orders) (s : State) (n : ℕ) : Type 0 where
-  pub from : rounds_from 1025985 y y 0 ≡ rounds_from (rounds_left n) y (year_in y.weight s) n
-  pub few : leeway (year_in y.weight s) + n ≤ 1025984
-  pub narrower : Narrower y (year_in y.weight s)
-  pub is : s ≡ held (live (year_in y.weight s))
-  pub orders : (n + 1 ≡ 1 → ⊥) → o ≡ orders_in y.weight y.courses
+pub record BeforeRound (y : Year) (o : Option Orders) (s : State) (n : ℕ) : Type 0 where
+  pub from : rounds_from 1025985 y y 0 ≡ rounds_from (rounds_left n) y (year_in s) n
+  pub few : leeway (year_in s) + n ≤ 1025984
+  pub narrower : Narrower y (year_in s)
+  pub is : step_in s ≡ live (year_in s)
+  pub orders : InOrder (year_in s) o
 
 module _ (y : Year) (sound : Sound y) where
   -- ---- before the first round
 
-  pub before_first : (o : Orders) (s : State) → s ≡ held (live y) → BeforeRound y o s 0
-  before_first o s q =
-      let at : StateAt y s (live y) = record { is = q; narrower = narrower_self y sound } in
-      let year : year_in y.weight s ≡ y = state_year y s (live y) at in
+  pub before_first : (s : State) → step_in s ≡ live y → BeforeRound y None s 0
+  before_first s e =
+      let year : year_in s ≡ y = ap (λ (p : Step). p.year) e in
       record {
         from = ap (λ (x : Year). rounds_from 1025985 y x 0) (sym year);
         few = subst (λ (x : Year). leeway x + 0 ≤ 1025984) (sym year) (omega (arith, leeway_most y sound));
         narrower = subst (Narrower y) (sym year) (narrower_self y sound);
-        is = q ∙ ap (λ (x : Year). held (live x)) (sym year);
-        orders = λ d. absurd (d refl);
+        is = e ∙ ap live (sym year);
+        orders = tt;
       }
 
   -- ---- one round more
 
-  module _ (o : Orders) (s : State) (n : ℕ) (g : BeforeRound y o s n) where
+  module _ (o : Option Orders) (s : State) (n : ℕ) (g : BeforeRound y o s n) where
     abbrev z : Year
-    z = year_in y.weight s
+    z = year_in s
 
     pub round_few : n ≤ 1025984
     round_few = omega (arith, g.few)
 
-    at0 : StateAt y s (live z)
-    at0 = record { is = g.is; narrower = g.narrower }
-
-    -- what the first half asks
+    -- what a round asks
     pub credits : (a : ℕ) → a ≡ all_credits y → a ≡ all_credits z
-    credits a q = state_credits y s (live z) at0 a q
+    credits a q = q ∙ sym (credits_same y z g.narrower.courses_same g.narrower.weight_same)
 
-    -- the round ends with a rule that finds no plan
-    ended : (k : ℕ) → k ≡ (round z).rule → (k ≡ 0 → ⊥) → (f : Filtered) → f ≡ filtered (NoPlan k (n + 1)) y → f ≡ rounds_from 1025985 y y 0
-    ended k q d f a =
-        a
-        ∙ ap (λ (r : ℕ). filtered (NoPlan r (n + 1)) y) q
-        ∙ sym (round_no_plan y z n round_few (ne_eqb (round z).rule 0 (λ t. d (q ∙ t))))
-        ∙ sym g.from
+    module _ (r : State) where
+      -- the round finds no plan
+      pub round_ended : (rule : Rule) → step_of r (Err rule) ≡ round z → filtered (NoPlan rule (n + 1)) y ≡ rounds_from 1025985 y y 0
+      round_ended rule e =
+          ap (λ (a : Rule). filtered (NoPlan a (n + 1)) y) (sym (named_number rule) ∙ ap (λ (p : Step). rule_named p.rule) e)
+          ∙ sym (round_no_plan y z n round_few (dead_of r rule (round z) e))
+          ∙ sym g.from
 
-    first_narrower : Narrower z (first_half z).year
-    unfolding first_half
-    first_narrower = row_narrower (passes_of 1 5) (lawful_part 1 5) z (live z) (narrower_self z g.narrower.sound)
+      -- or none
+      module _ (e : step_in r ≡ round z) where
+        lives : eqb (round z).rule 0 ≡ true
+        lives = eq-eqb (round z).rule 0 (sym (ap (λ (p : Step). p.rule) e))
 
-    -- a first half that finds no plan is the round
-    first_last : eqb (first_half z).rule 0 ≡ false → round z ≡ first_half z
-    unfolding second_half
-    first_last d = halves z ∙ row_last (passes_from 6) (lawful_from 6) (first_half z) d
+        altered_is : r.altered ≡ (round z).altered
+        altered_is = ap (λ (p : Step). p.altered) e
 
-    module _ (r1 : State) (e1 : r1 ≡ held (first_half z)) where
-      at1 : StateAt y r1 (first_half z)
-      at1 = record { is = e1; narrower = narrower_then y z (first_half z).year g.narrower first_narrower }
+        year_is : year_in r ≡ (round z).year
+        year_is = ap (λ (p : Step). p.year) e
 
-      pub first_ended : (r1.rule ≡ 0 → ⊥) → (f : Filtered) → f ≡ filtered (NoPlan r1.rule (n + 1)) y → f ≡ rounds_from 1025985 y y 0
-      first_ended d =
-          let q = state_rule y r1 (first_half z) at1 in
-          let last = first_last (ne_eqb (first_half z).rule 0 (λ t. d (q ∙ t))) in
-          ended r1.rule (q ∙ ap (λ (p : Step). p.rule) (sym last)) d
-
-      -- what the second half asks
-      pub first_sound : Sound (year_in y.weight r1)
-      first_sound = state_sound y r1 (first_half z) at1
-
-      pub first_orders : (p : Orders) → p ≡ orders_in y.weight y.courses → p ≡ orders_of (year_in y.weight r1)
-      first_orders p q =
-          q
-          ∙ orders_are y
-          ∙ sym (orders_weights y (first_half z).year at1.narrower.courses_same at1.narrower.weight_same)
-          ∙ ap orders_of (sym (state_year y r1 (first_half z) at1))
-
-      module _ (r2 : State) (e2 : r2 ≡ held (second_half (step_in y.weight r1))) where
-        at2 : StateAt y r2 (round z)
-        at2 = record {
-          is = e2 ∙ ap (λ (p : Step). held (second_half p)) (state_step y r1 (first_half z) at1) ∙ ap held (sym (halves z));
-          narrower = narrower_then y z (round z).year g.narrower (narrows_round z g.narrower.sound).year;
-        }
-
-        rule_is : r2.rule ≡ (round z).rule
-        rule_is = state_rule y r2 (round z) at2
-
-        altered_is : r2.altered ≡ (round z).altered
-        altered_is = ap (λ (q : State). q.altered) at2.is
-
-        year_is : year_in y.weight r2 ≡ (round z).year
-        year_is = state_year y r2 (round z) at2
-
-        lives : r2.rule ≡ 0 → eqb (round z).rule 0 ≡ true
-        lives d = eq-eqb (round z).rule 0 (sym rule_is ∙ d)
-
-        pub second_ended : (r2.rule ≡ 0 → ⊥) → (f : Filtered) → f ≡ filtered (NoPlan r2.rule (n + 1)) y → f ≡ rounds_from 1025985 y y 0
-        second_ended d = ended r2.rule rule_is d
-
-        pub second_sound : Sound (year_in y.weight r2)
-        second_sound = state_sound y r2 (round z) at2
+        pub still_narrower : Narrower y (year_in r)
+        still_narrower = subst (Narrower y) (sym year_is) (narrower_then y z (round z).year g.narrower (narrows_round z g.narrower.sound).year)
 
         -- the year is at rest
-        pub second_at_rest : r2.rule ≡ 0 → r2.altered ≡ false → (f : Filtered) → f ≡ filtered (at_rest (year_in y.weight r2) (n + 1)) (year_in y.weight r2) → f ≡ rounds_from 1025985 y y 0
-        second_at_rest d a f q =
-            q
-            ∙ ap (λ (x : Year). filtered (at_rest x (n + 1)) x) year_is
-            ∙ sym (round_at_rest y z n round_few (lives d) (sym altered_is ∙ a))
+        pub round_rests : r.altered ≡ false → filtered (at_rest (year_in r) (n + 1)) (year_in r) ≡ rounds_from 1025985 y y 0
+        round_rests a =
+            ap (λ (x : Year). filtered (at_rest x (n + 1)) x) year_is
+            ∙ sym (round_at_rest y z n round_few lives (sym altered_is ∙ a))
             ∙ sym g.from
 
         -- or there is less to narrow, and the filtering goes on
-        pub second_falls : r2.altered ≡ true → leeway (year_in y.weight r2) < leeway z
-        second_falls a = subst (λ (x : Year). leeway x < leeway z) (sym year_is) (round_falls z g.narrower.sound (sym altered_is ∙ a))
+        pub less_left : r.altered ≡ true → leeway (year_in r) < leeway z
+        less_left a = subst (λ (x : Year). leeway x < leeway z) (sym year_is) (round_falls z g.narrower.sound (sym altered_is ∙ a))
 
-        abbrev again : State
-        again = record {
-          terms = r2.terms;
-          courses = r2.courses;
-          term = r2.term;
-          list = r2.list;
-          sums = r2.sums;
-          altered = false;
-          rule = r2.rule;
-        }
+        -- q is r with its mark cleared
+        pub less_next : r.altered ≡ true → (q : State) → step_in q ≡ live (year_in r) → leeway (year_in q) < leeway z
+        less_next a q f = subst (λ (x : Year). leeway x < leeway z) (sym (ap (λ (x : Step). x.year) f)) (less_left a)
 
-        pub second_alters : r2.rule ≡ 0 → r2.altered ≡ true → (p : Orders) → p ≡ orders_in y.weight y.courses → BeforeRound y p again (n + 1)
-        second_alters d a p q = record {
-          from = g.from ∙ round_alters y z n round_few (lives d) (sym altered_is ∙ a) ∙ ap (λ (x : Year). rounds_from (rounds_left (n + 1)) y x (n + 1)) (sym year_is);
-          few = omega (arith, g.few, second_falls a);
-          narrower = subst (Narrower y) (sym year_is) at2.narrower;
-          is = λ i. record {
-            terms = r2.terms;
-            courses = r2.courses;
-            term = r2.term;
-            list = r2.list;
-            sums = r2.sums;
-            altered = false;
-            rule = d i;
-          };
-          orders = λ t. q;
-        }
+        pub before_next : r.altered ≡ true → (q : State) → step_in q ≡ live (year_in r) → (p : Option Orders) → InOrder z p → BeforeRound y p q (n + 1)
+        before_next a q f p i =
+            let same : year_in q ≡ year_in r = ap (λ (x : Step). x.year) f in
+            let w = narrows_round z g.narrower.sound in
+            let at = same ∙ year_is in
+            record {
+              from = g.from ∙ round_alters y z n round_few lives (sym altered_is ∙ a) ∙ ap (λ (x : Year). rounds_from (rounds_left (n + 1)) y x (n + 1)) (sym at);
+              few = let l = less_left a in subst (λ (x : Year). leeway x + (n + 1) ≤ 1025984) (sym same) (omega (arith, g.few, l));
+              narrower = subst (Narrower y) (sym same) still_narrower;
+              is = f ∙ ap live (sym same);
+              orders = subst (λ (x : Year). InOrder x p) (sym at) (in_order_still z (round z).year p w.year.courses_same w.year.weight_same i);
+            }

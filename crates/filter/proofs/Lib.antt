@@ -1,4 +1,3 @@
--- Laws about rounds in a row, and about the state between two rules of a round.
-pub mod StateAt
+-- Laws about rounds in a row.
 pub mod RoundLaws
 pub mod BeforeRound

@@ -11,11 +11,12 @@ use Rattle.year.specs.Sums.{all_placed}
 use Rattle.year.specs.declared.Year.{Year}
 use Rattle.year.proofs.SoundLaws.{sound_to}
 use Rattle.rules.specs.Round.{round}
+use Rattle.rules.specs.RuleNumbers.{rule_named}
+use Rattle.rules.proofs.RuleNumberLaws.{number_within}
 use Rattle.rules.proofs.Leeway.{leeway}
 use Rattle.rules.specs.Narrower.{Narrower}
 use Rattle.rules.proofs.Narrows.{narrower_self, narrower_then}
 use Rattle.rules.proofs.Passes.{narrows_round}
-use Rattle.rules.proofs.Named.{round_named}
 use Rattle.filter.specs.Halves.{first_half, second_half}
 use Rattle.filter.specs.Filter.{filtered, at_rest, rounds_from, filter_of}
 use Rattle.filter.specs.Numbers.{filter_rule, filter_rounds}
@@ -39,7 +40,7 @@ module _ (y z : Year) (n : ℕ) (few : n ≤ 1025984) where
   next : rounds_left (n + 1) ≡ 1025984 - n
   next = omega arith
 
-  pub round_no_plan : eqb (round z).rule 0 ≡ false → rounds_from (rounds_left n) y z n ≡ filtered (NoPlan (round z).rule (n + 1)) y
+  pub round_no_plan : eqb (round z).rule 0 ≡ false → rounds_from (rounds_left n) y z n ≡ filtered (NoPlan (rule_named (round z).rule) (n + 1)) y
   unfolding rounds_from
   round_no_plan d = rw (is, d, rounds_from)
 
@@ -60,7 +61,7 @@ round_falls z s a = let w = rw a at (narrows_round z s).falls in omega arith
 -- whatever holds of each way to end, where Q is kept from round to round, with k rounds left to run
 rounds_by : (P : Filtered → Type 0) (Q : ℕ → Year → ℕ → Type 0) (y : Year)
     → ((z : Year) (n : ℕ) → Q 0 z n → P (filtered (Open n) z))
-    → ((k : ℕ) (z : Year) (n : ℕ) → Q (suc k) z n → P (filtered (NoPlan (round z).rule (n + 1)) y))
+    → ((k : ℕ) (z : Year) (n : ℕ) → Q (suc k) z n → P (filtered (NoPlan (rule_named (round z).rule) (n + 1)) y))
     → ((k : ℕ) (z : Year) (n : ℕ) → Q (suc k) z n → P (filtered (at_rest (round z).year (n + 1)) (round z).year))
     → ((k : ℕ) (z : Year) (n : ℕ) → Q (suc k) z n → Q k (round z).year (n + 1))
     → (k : ℕ) (z : Year) (n : ℕ) → Q k z n → P (rounds_from k y z n)
@@ -71,7 +72,7 @@ rounds_by P Q y out none rest on (suc k) z n q =
   where
     go : (d b : Bool) → P (rounds_from k y (round z).year (n + 1))
         → P (elim d [
-          | false ↦ filtered (NoPlan (round z).rule (n + 1)) y
+          | false ↦ filtered (NoPlan (rule_named (round z).rule) (n + 1)) y
           | true ↦
               elim b [
                 | true ↦ rounds_from k y (round z).year (n + 1)
@@ -107,6 +108,6 @@ answer_few y = go (is_sound y)
 
     go : (b : Bool) → Few (choose b (rounds_from 1025985 y y 0) (filtered Unsound y)).answer
     go true =
-        rounds_by (λ f. Few f.answer) (λ k z n. n + k ≤ 1025985) y (λ z n q. omega arith) (λ k z n q. omega (arith, round_named z)) rest
+        rounds_by (λ f. Few f.answer) (λ k z n. n + k ≤ 1025985) y (λ z n q. omega arith) (λ k z n q. omega (arith, number_within (rule_named (round z).rule))) rest
         (λ k z n q. omega arith) 1025985 y 0 (omega arith)
     go false = omega arith

@@ -5,6 +5,7 @@ use Rattle.std.specs.Prelude.{ℕ, [], ◌∷◌, ◌≡◌, refl, replicate}
 use Rattle.year.specs.Year.{term_of, course_of}
 use Rattle.year.specs.Examples.{year_of, year_e, off_e}
 use Rattle.year.specs.Sums.{sums_of, no_sums}
+use Rattle.rules.specs.RuleNumbers.{rule_named}
 use Rattle.rules.specs.Examples.{at_a_terms_size, above_half, at_its_own_size}
 use Rattle.year.specs.declared.Year.{Year}
 use Rattle.filter.specs.Filter.{filtered, filter_of}
@@ -15,7 +16,7 @@ use Rattle.filter.specs.Computing.{computing}
 
 -- no plan, by rule r in round n
 abbrev FindsNone : Year → ℕ → ℕ → Type 0
-FindsNone y r n = filter_of y ≡ filtered (NoPlan r n) y
+FindsNone y r n = filter_of y ≡ filtered (NoPlan (rule_named r) n) y
 
 -- the year z, settled or open after n rounds
 abbrev Settles : Year → ℕ → Year → Type 0

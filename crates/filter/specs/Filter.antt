@@ -5,6 +5,7 @@ use Rattle.year.specs.Sound.{is_sound}
 use Rattle.year.specs.Sums.{all_placed}
 use Rattle.year.specs.declared.Year.{Year}
 use Rattle.rules.specs.Round.{round}
+use Rattle.rules.specs.RuleNumbers.{rule_named}
 use Rattle.filter.specs.declared.Answer.{Answer}
 use Rattle.filter.specs.declared.Answer.TheVariants.{Settled, Open, NoPlan, Unsound}
 use Rattle.filter.specs.declared.Filtered.{Filtered}
@@ -21,7 +22,7 @@ unfoldable pub rounds_from : ℕ → Year → Year → ℕ → Filtered
 rounds_from zero y z n = filtered (Open n) z
 rounds_from (suc k) y z n =
     elim (eqb (round z).rule 0) [
-      | false ↦ filtered (NoPlan (round z).rule (n + 1)) y
+      | false ↦ filtered (NoPlan (rule_named (round z).rule) (n + 1)) y
       | true ↦
           elim (round z).altered [
             | true ↦ rounds_from k y (round z).year (n + 1)

@@ -1,5 +1,6 @@
 -- The paper's numbers for a filtering's answer. A number that an answer does not name is 0.
 use Rattle.std.specs.Prelude.{ℕ, Bool, true, false}
+use Rattle.rules.specs.RuleNumbers.{rule_number}
 use Rattle.filter.specs.declared.Answer.{Answer}
 use Rattle.filter.specs.declared.Answer.TheVariants.{Settled, Open, NoPlan, Unsound}
 
@@ -19,7 +20,7 @@ filter_rounds Unsound = 0
 abbrev pub filter_rule : Answer → ℕ
 filter_rule (Settled n) = 0
 filter_rule (Open n) = 0
-filter_rule (NoPlan r n) = r
+filter_rule (NoPlan r n) = rule_number r
 filter_rule Unsound = 0
 
 abbrev pub is_settled : Answer → Bool

@@ -7,14 +7,15 @@ ghost use Rattle.std.specs.Prelude.{◌≡◌};
 ghost use Rattle.year.specs.Sound.{Sound};
 ghost use Rattle.filter.specs.Filter.{filter_of};
 
+use rules::Rule;
 use year::Year;
 
 // How a filtering ended: settled or open with the number of rounds, no plan with the rule and the round that found it, or refusal 8.
-#[derive(Clone, Copy)]
+#[derive(Clone, Copy, PartialEq, Eq)]
 pub enum Answer {
     Settled(u32),
     Open(u32),
-    NoPlan(u32, u32),
+    NoPlan(Rule, u32),
     Unsound,
 }
 
@@ -36,7 +37,7 @@ pub fn filter_sound(y: Year) -> Filtered
 pub fn filter(y: Year) -> Filtered
     ensures { result ≡ filter_of y }
 {
-    if !year::sound::is_sound(y) {
+    if !y.is_sound() {
         return Filtered {
             answer: Answer::Unsound,
             year: y,

@@ -1,9 +1,8 @@
 -- Laws for the code of every rule: a state and its year, a rule over its terms, a course under a verdict, and rules on bounds
--- told of the bounds alone.
+-- told by their outcomes.
 pub mod StateLaws
 pub mod TermsAt
 pub mod VerdictLaws
 pub mod BoundsOnly
-pub mod BoundsOver
-pub mod BoundsAt
 pub mod Moves
+pub mod ToldLaws

@@ -25,15 +25,14 @@ use Rattle.year.specs.declared.Year.{Year}
 use Rattle.year.proofs.BoundLaws.{tight_same, at_once, at_once_lem, within_raise, within_lower}
 use Rattle.year.proofs.DoorLaws.{term_same}
 use Rattle.rules.specs.Step.{Change, rests, moves, crosses, fails, applied, move, raise_lower, step, dead, goes, joined, Step}
-use Rattle.frame.specs.Bounds.{outcome_of, outcome, put}
-use Rattle.frame.specs.declared.Outcome.{Outcome}
+use Rattle.frame.specs.Bounds.{outcome_of, outcome, put, Outcome}
 
 -- ---- a year with its own term, and with a term put twice
 
 abbrev with_terms : Year → List Term → Year
 with_terms y l = record { terms = y.terms; courses = y.courses; term = l; weight = y.weight; list = y.list; sums = y.sums }
 
-own_term : (y : Year) (j : ℕ) → with_term y j (term_at y j) ≡ y
+pub own_term : (y : Year) (j : ℕ) → with_term y j (term_at y j) ≡ y
 own_term y j = ap (with_terms y) (set-get_or y.term j zero_term)
 
 twice : (y : Year) (j : ℕ) (t u : Term) → with_term (with_term y j t) j u ≡ with_term y j u

@@ -1,9 +1,9 @@
--- A course under a verdict: what the code has to know before it stores the course's new list and the sums, and what it has then.
+-- A course under a verdict: what `State::judge` has to know before it stores the course's new list and the sums, and what it has
+-- then. Its callers cite nothing here.
 use Prim.Native.Nat.{ℕ, ◌^◌, ◌≤◌, ◌<◌}
-use mathlib.Core.Bool.{true, not, or-true, or-false}
+use mathlib.Core.Bool.{Bool, true, false, not, or-true, true≢false}
 use mathlib.Core.List.{List}
 use mathlib.Core.Path.{◌≡◌, refl, sym, ap, ◌∙◌, subst}
-use native.Mathlib.Omega.{arith}
 use lib.ListN.{set}
 use Rattle.theory.specs.Tab.{tab}
 use Rattle.theory.proofs.BitLaws.{has_le}
@@ -20,9 +20,8 @@ use Rattle.year.proofs.ChangeLaws.{change_asks, change_gives}
 use Rattle.rules.specs.Step.{Step, step, judged, joined}
 use Rattle.rules.specs.declared.Verdict.{Verdict}
 use Rattle.rules.specs.declared.Verdict.TheVariants.{Stays, Struck, Fixed}
-use Rattle.frame.specs.State.{held}
+use Rattle.rules.proofs.Steps.{judged_narrows}
 use Rattle.frame.specs.Verdicts.{list_after}
-use Rattle.frame.specs.declared.State.{State}
 
 -- a verdict other than to stay gives the course another list
 judged_alters : (y : Year) (i j : ℕ) (v : Verdict) → (v ≡ Stays → ⊥) → judged y i j v ≡ step (with_list y i (list_after v (list y i) j)) true 0
@@ -30,42 +29,40 @@ judged_alters y i j Stays d = absurd (d refl)
 judged_alters y i j Struck d = refl
 judged_alters y i j Fixed d = refl
 
--- c, which is course i, under verdict v in term j: of state z it makes state r
-pub record UnderVerdict (v : Verdict) (i j : ℕ) (c : Course) (z r : State) : Type 0 where
+not_struck : (v : Verdict) → v ≡ Struck → v ≡ Stays → ⊥
+not_struck v e q = let x : Struck ≡ Stays = sym e ∙ q in cc
+
+-- c, which is course i, comes under verdict v in term j; only an open course has one
+module _ (y : Year) (sound : Sound y) (i j : ℕ) (inside : i < y.courses) (below : j < y.terms) (v : Verdict)
+    (only-open : (v ≡ Stays → ⊥) → is_open (course_at y i) j ≡ true) (c : Course) (is : c ≡ course_at y i) where
   pub is_listed : v ≡ Struck → 2 ^ j ≤ c.list
-  pub asks : (c.weight.0 ≤ 1000) × ((k : ℕ) → k < 16 → Within (sums_in z.sums k) (part_of c k))
-  pub stays : v ≡ Stays → z ≡ r
-  pub alters : (v ≡ Stays → ⊥) → (x : ℕ) → x ≡ list_after v c.list j → (u : List Sums) → u ≡ tab 16 (changed_at z.sums c x)
-      → record { terms = z.terms; courses = z.courses; term = z.term; list = set z.list i x; sums = u; altered = true; rule = z.rule } ≡ r
+  is_listed e =
+      let o = and_true (lists (course_at y i) j) (not (is_fixed (course_at y i) j)) (only-open (not_struck v e)) in
+      rw is (has_le (list y i) j o.0)
 
--- z holds step p, which goes on; only an open course has a verdict
-module _ (p : Step) (sound : Sound p.year) (going : p.rule ≡ 0) (i j : ℕ) (inside : i < p.year.courses) (c : Course) (is : c ≡ course_at p.year i)
-    (v : Verdict) (only-open : (v ≡ Stays → ⊥) → is_open (course_at p.year i) j ≡ true) (z : State) (inv : z ≡ held p) where
-  abbrev after : State
-  after = held (joined p (judged p.year i j v))
+  pub sums_ask : (k : ℕ) → k < 16 → Within (sums_in y.sums k) (part_of c k)
+  sums_ask = (change_asks y sound i inside c is).1
 
-  sums_are : z.sums ≡ p.year.sums
-  sums_are = ap (λ (q : State). q.sums) inv
+  stays_else : (u : Verdict) → ((u ≡ Stays → ⊥) → is_open (course_at y i) j ≡ true) → is_open (course_at y i) j ≡ false → u ≡ Stays
+  stays_else Stays o e = refl
+  stays_else Struck o e = absurd (true≢false (sym (o (not_struck Struck refl)) ∙ e))
+  stays_else Fixed o e = absurd (true≢false (sym (o (λ q. let x : Fixed ≡ Stays = q in cc)) ∙ e))
 
-  struck_lists : v ≡ Struck → lists (course_at p.year i) j ≡ true
-  struck_lists e =
-      let is_open_lem : is_open (course_at p.year i) j ≡ true = only-open (λ q. let x : ◌≡◌ {A = ℕ} 0 1 = cc in omega arith) in
-      (and_true (lists (course_at p.year i) j) (not (is_fixed (course_at p.year i) j)) is_open_lem).0
+  -- the year with the list x and the sums u, and the step that it is
+  abbrev stored : ℕ → List Sums → Year
+  stored x u = record { terms = y.terms; courses = y.courses; term = y.term; weight = y.weight; list = set y.list i x; sums = u }
 
-  pub under_verdict : UnderVerdict v i j c z after
-  under_verdict = record {
-    is_listed = λ e. rw is (has_le (list p.year i) j (struck_lists e));
-    asks = subst (λ u. (c.weight.0 ≤ 1000) × ((k : ℕ) → k < 16 → Within (sums_in u k) (part_of c k))) (sym sums_are) (change_asks p.year sound i inside c is);
-    stays = λ e.
-        let m = sym (or-false p.altered) in
-        inv ∙ (λ n. held (step p.year (m n) (going n))) ∙ ap (λ u. held (joined p (judged p.year i j u))) (sym e);
-    alters = λ d x q u f.
-        let y = p.year in
-        let new = list_after v (list y i) j in
-        let at : x ≡ new = q ∙ ap (λ (a : Course). list_after v a.list j) is in
-        let sums = f ∙ ap (λ b. tab 16 (changed_at b c x)) sums_are ∙ ap (λ b. tab 16 (changed_at y.sums c b)) at ∙ change_gives y sound i inside c is new in
-        let m = sym (or-true p.altered) in
-        let r = ap (λ (a : State). a.rule) inv ∙ going in
-        (λ n. record { terms = (inv n).terms; courses = (inv n).courses; term = (inv n).term; list = set (inv n).list i (at n); sums = sums n; altered = m n; rule = r n })
-        ∙ ap (λ a. held (joined p a)) (sym (judged_alters y i j v d));
-  }
+  module _ (d : v ≡ Stays → ⊥) (x : ℕ) (new : x ≡ list_after v c.list j) (u : List Sums) (sums : u ≡ tab 16 (changed_at y.sums c x)) where
+    pub stored_step : (a : Bool) → step (stored x u) true 0 ≡ joined (step y a 0) (judged y i j v)
+    stored_step a =
+        let to = list_after v (list y i) j in
+        let at : x ≡ to = new ∙ ap (λ (b : Course). list_after v b.list j) is in
+        let are = sums ∙ ap (λ b. tab 16 (changed_at y.sums c b)) at ∙ change_gives y sound i inside c is to in
+        let m = sym (or-true a) in
+        (λ n. step (record { terms = y.terms; courses = y.courses; term = y.term; weight = y.weight; list = set y.list i (at n); sums = are n }) (m n) 0)
+        ∙ ap (joined (step y a 0)) (sym (judged_alters y i j v d))
+
+    pub stored_sound : Sound (stored x u)
+    stored_sound =
+        subst Sound (sym (ap (λ (s : Step). s.year) (stored_step true)))
+        (judged_narrows y i j v sound inside below (stays_else v only-open)).year.sound

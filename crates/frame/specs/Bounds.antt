@@ -1,17 +1,15 @@
--- A rule on bounds over the terms, told of the bounds alone: each term sees the bounds left by the term before, and a term that
--- finds no plan is the last.
-use Rattle.std.specs.Prelude.{ℕ, Bool, false, ◌||◌, List, eqb, get_or, set}
+-- What a rule on bounds makes of a term, and what the code tells of it.
+use Rattle.std.specs.Prelude.{ℕ, Bool, true, false, ◌||◌, List, eqb, get_or, Option, Some, None, Result, Ok, Err}
 use Rattle.theory.specs.Choice.{choose}
-use Rattle.theory.specs.Fold.{fold}
 use Rattle.year.specs.Year.{zero_term}
 use Rattle.year.specs.Doors.{with_term}
+use Rattle.year.specs.Sound.{TermSound}
 use Rattle.year.specs.declared.Term.{Term}
 use Rattle.year.specs.declared.Tight.{Tight}
 use Rattle.year.specs.declared.Year.{Year}
-use Rattle.rules.specs.Step.{Step, step}
-use Rattle.frame.specs.declared.State.{State}
-use Rattle.frame.specs.declared.Bounds.{Bounds}
-use Rattle.frame.specs.declared.Outcome.{Outcome}
+use Rattle.rules.specs.Step.{Step, step, live, dead}
+use Rattle.rules.specs.RuleNumbers.{rule_number, rule_named}
+use Rattle.rules.specs.declared.Rule.{Rule}
 
 -- ---- entries of an array of terms
 
@@ -30,23 +28,13 @@ least_in t k = (term_in t k).least.0
 abbrev pub most_in : List Term → ℕ → ℕ
 most_in t k = (term_in t k).most.0
 
--- ---- a rule over them
+-- ---- an outcome
 
--- the bounds of a step
-abbrev pub bounds_of : Step → Bounds
-bounds_of p = record { term = p.year.term; altered = p.altered; rule = p.rule }
-
--- a state with other bounds
-abbrev pub with_bounds : State → Bounds → State
-with_bounds s b = record {
-  terms = s.terms;
-  courses = s.courses;
-  term = b.term;
-  list = s.list;
-  sums = s.sums;
-  altered = b.altered;
-  rule = b.rule;
-}
+-- a term after a rule was run on its bounds
+pub record Outcome : Type 0 where
+  pub term : Term
+  pub altered : Bool
+  pub rule : ℕ
 
 abbrev pub outcome_of : Term → Bool → ℕ → Outcome
 outcome_of t a r = record { term = t; altered = a; rule = r }
@@ -55,21 +43,24 @@ outcome_of t a r = record { term = t; altered = a; rule = r }
 unfoldable pub outcome : ℕ → Bool → Term → Tight → Outcome
 outcome r fails t w = choose (fails || w.crossed) (outcome_of t false r) (outcome_of w.term w.altered 0)
 
--- the outcome at term j of a year, and of the bounds alone
+-- the step that an outcome at term j of a year makes
 abbrev pub put : Year → ℕ → Outcome → Step
 put y j o = step (with_term y j o.term) o.altered o.rule
 
-abbrev pub put_at : Bounds → ℕ → Outcome → Bounds
-put_at b j o = record { term = set b.term j o.term; altered = b.altered || o.altered; rule = o.rule }
+-- ---- an outcome as the code tells it
 
--- no plan has been found so far
-abbrev pub going : Bounds → Bool
-going b = eqb b.rule 0
+-- the bounds that the term gets, if they are others, or the rule that found no plan
+abbrev pub told : Outcome → Result (Option Term) Rule
+told o = choose (eqb o.rule 0) (Ok (choose o.altered (Some o.term) None)) (Err (rule_named o.rule))
 
--- the rule f at term j
-abbrev pub turned : (List Term → ℕ → Outcome) → Bounds → ℕ → Bounds
-turned f b j = put_at b j (f b.term j)
+-- the step that it makes at term j of a year
+abbrev pub put_told : Year → ℕ → Result (Option Term) Rule → Step
+put_told y j (Ok (Some t)) = step (with_term y j t) true 0
+put_told y j (Ok None) = live y
+put_told y j (Err a) = dead (rule_number a) y
 
--- and over the first n terms
-abbrev pub bounds_over : (List Term → ℕ → Outcome) → Bounds → ℕ → Bounds
-bounds_over f b n = fold going (turned f) b n
+-- bounds that it has for the term are within the sizes
+abbrev pub Fits : Result (Option Term) Rule → Type 0
+Fits (Ok (Some t)) = TermSound t
+Fits (Ok None) = Unit {0}
+Fits (Err a) = Unit {0}

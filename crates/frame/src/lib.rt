@@ -1,82 +1,81 @@
-// What the code of every rule stands on: a year on its way through a round, its bounds by themselves, the outcome at a term, and
-// a course under a verdict.
+// What the code of every rule stands on: a sound year on its way through a round, and what a rule on bounds tells of a term.
 #![tactic(auto)]
 
 pub mod verdicts;
 
 ghost use Rattle.std.specs.Prelude.{◌≡◌};
-ghost use Rattle.frame.specs.Bounds.{with_bounds, outcome};
+ghost use Rattle.rules.specs.RuleNumbers.{rule_number};
+ghost use Rattle.frame.specs.Bounds.{outcome, told};
+ghost use Rattle.year.specs.Sound.{Sound};
+ghost use Rattle.year.specs.declared.Term.{Term as TermValue};
 
+use rules::Rule;
 use year::{Sums, Term, Tight, Year};
 
-// A year on its way through the rules, but for the weights, which never change: its sizes, bounds and lists, the sums of
-// its terms, whether something was altered, and the rule that found no plan (0 while none has).
-#[derive(Clone, Copy)]
-pub struct State {
+// A sound year on its way through the rules, and whether something was altered. It owns all but the weights, which never change.
+// Its fields are read where they stand, and written by its methods alone. No rule has found that it has no plan.
+#[derive(Drop)]
+pub struct State<'a> {
     pub terms: usize,
     pub courses: usize,
     pub term: [Term; Year::TERMS],
+    pub weight: &'a [u32],
     pub list: [u16; Year::COURSES],
     pub sums: [Sums; Year::TERMS],
     pub altered: bool,
-    pub rule: u32,
+    pub ghost sound: { Sound (record { terms = terms; courses = courses; term = term; weight = weight.now; list = list; sums = sums }) },
 }
 
-// The bounds of a year on their way through rules that alter nothing else.
-#[derive(Clone, Copy)]
-pub struct Bounds {
-    pub term: [Term; Year::TERMS],
-    pub altered: bool,
-    pub rule: u32,
-}
+impl<'a> State<'a> {
+    ghost use Rattle.std.specs.Prelude.{◌<◌};
+    ghost use Rattle.rules.specs.Step.{joined, live};
+    ghost use Rattle.frame.specs.Bounds.{Fits, put_told};
+    ghost use Rattle.frame.specs.State.{year_in, step_in, step_of};
 
-// A term after a rule was run on its bounds.
-#[derive(Clone, Copy)]
-pub struct Outcome {
-    pub term: Term,
-    pub altered: bool,
-    pub rule: u32,
-}
-
-// The bounds of a state.
-pub fn bounds_of(s: State) -> Bounds
-    ensures { result ≡ record { term = s.term; altered = s.altered; rule = s.rule } }
-{
-    let t = s.term;
-    Bounds {
-        term: t,
-        altered: s.altered,
-        rule: s.rule,
-    }
-}
-
-// A state with other bounds.
-pub fn with_bounds(s: State, b: Bounds) -> State
-    ensures { result ≡ with_bounds s b }
-{
-    let mut z = s;
-    let t = b.term;
-    z.term = t;
-    z.altered = b.altered;
-    z.rule = b.rule;
-    z
-}
-
-// The tighter bounds w of term t under a rule, unless they cross or the rule itself fails.
-pub fn outcome_of(rule: u32, fails: bool, t: Term, w: Tight) -> Outcome
-    ensures { result ≡ outcome rule fails t w }
-{
-    if fails | w.crossed {
-        return Outcome {
-            term: t,
+    // A sound year, before the rules.
+    pub fn new(y: &'a Year) -> State<'a>
+        requires { Sound y.now }
+        ensures { step_in result ≡ live y.now }
+    {
+        State {
+            terms: y.terms,
+            courses: y.courses,
+            term: y.term,
+            weight: &y.weight,
+            list: y.list,
+            sums: y.sums,
             altered: false,
-            rule: rule,
-        };
+        }
     }
-    let term = w.term;
-    Outcome {
-        term: term,
-        altered: w.altered,
-        rule: 0,
+
+    // What was altered before does not count in the round that begins.
+    pub fn begin_round(&mut self)
+        ensures { step_in self.new ≡ live (year_in self.old) }
+    {
+        self.altered = false;
     }
+
+    // Term j gets the bounds that an outcome has for it, or the rule that found no plan is the answer.
+    pub fn tighten(&mut self, j: usize, outcome: Result<Option<Term>, Rule>) -> Result<(), Rule>
+        requires in_range { j < self.old.terms }
+        requires fits { Fits outcome }
+        ensures { step_of self.new result ≡ joined (step_in self.old) (put_told (year_in self.old) j outcome) }
+    {
+        if let Some(term) = outcome? {
+            self.term[j] = term;
+            self.altered = true;
+        }
+        Ok(())
+    }
+}
+
+// What a rule makes of a term by the tighter bounds w: the bounds that it gets, if they are others. It has no plan if they cross
+// or the rule itself fails.
+pub fn outcome_of(rule: Rule, fails: bool, w: Tight) -> Result<Option<Term>, Rule>
+    ensures { (t : TermValue) → result ≡ told (outcome (rule_number rule) fails t w) }
+{
+    if fails || w.crossed {
+        return Err(rule);
+    }
+    Ok(w.altered.then_some(w.term))
 }

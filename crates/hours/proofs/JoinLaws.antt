@@ -13,27 +13,25 @@ use Rattle.theory.specs.Tab.{tab}
 use Rattle.theory.proofs.TestLaws.{or_false}
 use Rattle.year.specs.Year.{term_at, course_at}
 use Rattle.year.specs.Sums.{fixed_credits, open_credits, fixed_count, open_count, sums_at}
-use Rattle.year.specs.Doors.{empty_year, with_sums}
+use Rattle.year.specs.Doors.{with_sums}
 use Rattle.year.specs.Sound.{Sound}
 use Rattle.year.specs.Computing.{computing as computingYear}
 use Rattle.year.specs.declared.Term.{Term}
 use Rattle.year.specs.declared.Course.{Course}
 use Rattle.year.specs.declared.Year.{Year}
 use Rattle.records.specs.Bytes.{letter_at}
-use Rattle.records.specs.declared.Fault.{Fault}
-use Rattle.records.specs.declared.Reading.{Reading}
-use Rattle.records.specs.declared.Reading.TheVariants as reading
-use Rattle.records.specs.declared.Received.{Received}
-use Rattle.records.specs.Reading.{OfTerm, OfCourse, blank_year, add_term, add_course, done, gathered, bad_length, summed}
+use Rattle.std.specs.Prelude.{Result, Ok, Err, MatchResult}
+use Rattle.records.specs.declared.Refusal.{Refusal}
+use Rattle.records.specs.Reading.{OfTerm, OfCourse, blank_year, add_term, add_course, done, gathered, bad_length}
 use Rattle.records.proofs.EntryLaws.{TermHeld, TermRead, of_term_lem, of_course_lem, term_no_course, course_no_term}
 use Rattle.year.proofs.SoundLaws.{with_sums_same}
-use Rattle.records.proofs.GatherLaws.{gathered_keeps, listed_done, listed_refused, summed_refused, Begun, begun_blank, begun_term, begun_course, begun_sound, term_added, term_before, course_added, course_before}
+use Rattle.records.proofs.GatherLaws.{fault_some, gathered_keeps, listed, listed_done, listed_refused, summed_was, summed_refused, Begun, begun_blank, begun_term, begun_course, begun_sound, term_added, term_before, course_added, course_before}
 use Rattle.records.proofs.ListLaws.{length_good}
-use Rattle.hours.specs.declared.Joining.TheVariants.{Done, InTerms}
-use Rattle.hours.specs.declared.Joined.{Joined}
-use Rattle.hours.specs.Numbers.{joining_place}
+use Rattle.hours.specs.declared.JoiningRefusal.{JoiningRefusal}
+use Rattle.hours.specs.declared.JoiningRefusal.TheVariants.{InTerms, InHours}
+use Rattle.hours.specs.Numbers.{joining_number, joining_place}
 use Rattle.hours.specs.Entries.{hours_record, term_alone}
-use Rattle.hours.specs.Joining.{term_entry, term_list, hours_entry, bad_hours, hours_list, in_hours, with_hours, behind_terms, join_of}
+use Rattle.hours.specs.Joining.{term_entry, term_list, hours_entry, bad_hours, hours_list, in_hours, with_hours, behind_terms, join_of, year_joined}
 use Rattle.hours.proofs.EntryLaws.{alone_read, HoursHeld, HoursRead, hours_read}
 
 -- ---- the list of terms
@@ -125,101 +123,119 @@ hours_good n p =
     (omega arith, omega arith)
 
 -- a list of terms that is done
-pub terms_done : (s : List ℕ) → (term_list s).answer ≡ reading.Done
-    → Terms s (length s / 16) (term_list s).year × (1 ≤ length s / 16) × (length s / 16 * 16 ≡ length s)
+pub terms_done : (s : List ℕ) (y : Year) → term_list s ≡ done y
+    → Terms s (length s / 16) y × (1 ≤ length s / 16) × (length s / 16 * 16 ≡ length s)
 unfolding term_list
-terms_done s e =
-    let d = listed_done (bad_length (length s)) (term_entry s) blank_year (length s / 16) e in
+terms_done s y e =
+    let d = listed_done (bad_length (length s)) (term_entry s) blank_year (length s / 16) y e in
     let g = length_good (length s) d.0 in
-    (terms_so_far s (length s / 16) _ d.1, g.0, g.1)
+    (terms_so_far s (length s / 16) y d.1, g.0, g.1)
 
 -- its year is sound, and has its sums
-pub terms_sound : (s : List ℕ) → (term_list s).answer ≡ reading.Done → Sound (term_list s).year
-terms_sound s e =
-    let r = terms_done s e in
-    let y = (term_list s).year in
+pub terms_sound : (s : List ℕ) (y : Year) → term_list s ≡ done y → Sound y
+terms_sound s y e =
+    let r = terms_done s y e in
     subst Sound (with_sums_same y r.0.sums_kept) (begun_sound y r.0.begun (omega (arith, r.1, r.0.count)))
 
 -- an hours list that is done, behind terms that are: the year of its records is handed back with its sums
-pub hours_done : (y : Year) (s : List ℕ) → Begun y → y.courses ≡ 0 → (hours_list y s).answer ≡ reading.Done
-    → (z : Year) × Hours y s (length s / 16) z × SameTerms y s (length s / 16) z × (length s / 16 * 16 ≡ length s) × (with_sums z ≡ (hours_list y s).year)
+pub hours_done : (y : Year) (s : List ℕ) → Begun y → y.courses ≡ 0 → (w : Year) → hours_list y s ≡ done w
+    → (z : Year) × Hours y s (length s / 16) z × SameTerms y s (length s / 16) z × (length s / 16 * 16 ≡ length s) × (with_sums z ≡ w)
 unfolding hours_list
-hours_done y s b none e =
-    let d = listed_done (bad_hours (length s)) (hours_entry s) y (length s / 16) e in
-    (_, hours_so_far y s b none (length s / 16) _ d.1, terms_same y s (length s / 16) _ d.1, (hours_good (length s) d.0).0, refl)
+hours_done y s b none w e =
+    let u = summed_was (listed (bad_hours (length s)) (hours_entry s) y (length s / 16)) w e in
+    let d = listed_done (bad_hours (length s)) (hours_entry s) y (length s / 16) u.0 u.1 in
+    (u.0, hours_so_far y s b none (length s / 16) u.0 d.1, terms_same y s (length s / 16) u.0 d.1, (hours_good (length s) d.0).0, u.2)
 
--- refused, either hands back the empty year, and the place is one of its records or 0
-pub terms_refused : (s : List ℕ) (f : Fault) (k : ℕ) → (term_list s).answer ≡ reading.Refused f k → ((term_list s).year ≡ empty_year) × (k ≤ 80)
+-- refused, the place is one of its records or 0
+pub terms_refused : (s : List ℕ) (q : Refusal) → term_list s ≡ Err q → q.record ≤ 80
 unfolding term_list
-terms_refused s f k e =
-    let r = listed_refused (bad_length (length s)) (term_entry s) blank_year (length s / 16) f k e in
-    (ap (λ (r : Received). r.year) r.0, ⊎_elim (λ q. omega (arith, q.2)) (λ q. omega (arith, q.1, (length_good (length s) q.0).2)) r.1)
+terms_refused s q e =
+    ⊎_elim (λ r. omega (arith, r.2)) (λ r. omega (arith, r.1, (length_good (length s) r.0).2)) (listed_refused (bad_length (length s)) (term_entry s) blank_year (length s / 16) q.fault q.record e)
 
-pub hours_refused : (y : Year) (s : List ℕ) (f : Fault) (k : ℕ) → (hours_list y s).answer ≡ reading.Refused f k → ((hours_list y s).year ≡ empty_year) × (k ≤ 80)
+pub hours_refused : (y : Year) (s : List ℕ) (q : Refusal) → hours_list y s ≡ Err q → q.record ≤ 80
 unfolding hours_list
-hours_refused y s f k e =
-    let r = listed_refused (bad_hours (length s)) (hours_entry s) y (length s / 16) f k e in
-    (ap (λ (r : Received). r.year) (ap summed r.0 ∙ summed_refused f k), ⊎_elim (λ q. omega (arith, q.2)) (λ q. omega (arith, q.1, (hours_good (length s) q.0).1)) r.1)
+hours_refused y s q e =
+    ⊎_elim (λ r. omega (arith, r.2)) (λ r. omega (arith, r.1, (hours_good (length s) r.0).1)) (listed_refused (bad_hours (length s)) (hours_entry s) y (length s / 16) q.fault q.record (summed_refused _ q e))
 
 -- ---- both
 
 -- the endings of the two lists, as endings of the joining
-module _ (t h : List ℕ) (front : Received) (is : front ≡ term_list t) where
-  pub join_behind : front.answer ≡ reading.Done → with_hours front.year h ≡ join_of t h
+module _ (t h : List ℕ) where
+  pub join_behind : (y : Year) → term_list t ≡ done y → with_hours y h ≡ join_of t h
   unfolding join_of
-  join_behind e = rw (sym is, e) refl
+  join_behind y e = rw e refl
 
-  pub join_in_terms : (f : Fault) (k : ℕ) → front.answer ≡ reading.Refused f k → record { answer = InTerms f k; year = front.year } ≡ join_of t h
+  pub join_in_terms : (q : Refusal) → term_list t ≡ Err q → Err (InTerms q) ≡ join_of t h
   unfolding join_of
-  join_in_terms f k e = rw (sym is, e) refl
+  join_in_terms q e = rw e refl
 
-  -- what the hours stand behind is sound, with no course
-  pub front_sound : front.answer ≡ reading.Done → Sound front.year × (front.year.courses ≡ 0)
-  front_sound e =
-      let d : (term_list t).answer ≡ reading.Done = sym (ap (λ (r : Received). r.answer) is) ∙ e in
-      rw is (terms_sound t d, (terms_done t d).0.no_course)
+-- what reading the hours list gave, each refusal under that list
+pub listed_under : (r : Result Year Refusal) (m : Result Year JoiningRefusal) (P : Refusal → Type 0) → MatchResult r (λ y. m ≡ Ok y) P → ((q : Refusal) → r ≡ Err q → m ≡ Err (InHours q)) → m ≡ in_hours r
+listed_under (Ok y) m P h each = h
+listed_under (Err q) m P h each = each q refl
+
+-- what the hours stand behind is sound, with no course
+pub front_sound : (t : List ℕ) (y : Year) → term_list t ≡ done y → Sound y × (y.courses ≡ 0)
+front_sound t y e = (terms_sound t y e, (terms_done t y e).0.no_course)
 
 -- how a joining ends: refused in the terms' list, or as the hours list behind its year
 module _ (t h : List ℕ) where
-  pub data Ends : Joined → Type 0 where
-    in_terms : (f : Fault) (k : ℕ) → (term_list t).answer ≡ reading.Refused f k → Ends (record { answer = InTerms f k; year = (term_list t).year })
-    behind : (term_list t).answer ≡ reading.Done → Ends (with_hours (term_list t).year h)
+  pub data Ends : Result Year JoiningRefusal → Type 0 where
+    in_terms : (q : Refusal) → term_list t ≡ Err q → Ends (Err (InTerms q))
+    behind : (y : Year) → term_list t ≡ done y → Ends (with_hours y h)
 
   pub ends : Ends (join_of t h)
   unfolding join_of
-  ends = go (term_list t).answer refl
+  ends = go (term_list t) refl
     where
-      go : (a : Reading) → (term_list t).answer ≡ a → Ends (behind_terms (term_list t) a h)
-      go reading.Done p = behind p
-      go (reading.Refused f k) p = in_terms f k p
+      go : (r : Result Year Refusal) → term_list t ≡ r → Ends (behind_terms r h)
+      go (Ok y) p = behind y p
+      go (Err q) p = in_terms q p
+
+joined_refused : (y : Year) (q : JoiningRefusal) → ◌≡◌ {A = Result Year JoiningRefusal} (Err q) (Ok y) → ⊥
+joined_refused y q e = cc
+
+-- what bears the number 0 is a year, and what bears another is a refusal, which holds no year
+pub is_joined : (r : Result Year JoiningRefusal) → joining_number r ≡ 0 → r ≡ Ok (year_joined r)
+is_joined (Ok y) e = refl
+is_joined (Err (InTerms r)) e = absurd (fault_some r.fault e)
+is_joined (Err (InHours r)) e = absurd (fault_some r.fault e)
+
+pub is_unjoined : (r : Result Year JoiningRefusal) → (joining_number r ≡ 0 → ⊥) → (q : JoiningRefusal) × (r ≡ Err q)
+is_unjoined (Ok y) n = absurd (n refl)
+is_unjoined (Err q) n = (q, refl)
+
+pub unjoined_numbered : (r : Result Year JoiningRefusal) (q : JoiningRefusal) → r ≡ Err q → joining_number r ≡ 0 → ⊥
+unjoined_numbered r q e z = joined_refused (year_joined r) q (sym e ∙ is_joined r z)
 
 -- the year of both lists
 pub record Joint (t h : List ℕ) (y : Year) : Type 0 where
-  pub front_done : (term_list t).answer ≡ reading.Done
-  pub front_same : (y.terms ≡ (term_list t).year.terms) × (y.term ≡ (term_list t).year.term)
+  pub front : Year
+  pub front_done : term_list t ≡ done front
+  pub front_same : (y.terms ≡ front.terms) × (y.term ≡ front.term)
   pub sound : Sound y
   pub term_bytes_lem : y.terms * 16 ≡ length t
   pub course_bytes_lem : y.courses * 16 ≡ length h
   pub each_term : (j : ℕ) → j < y.terms → TermHeld t (j * 16) (term_at y j)
   pub each_course : (i : ℕ) → i < y.courses → HoursHeld h (i * 16) y.terms (course_at y i)
 
-pub joint : (t h : List ℕ) → (join_of t h).answer ≡ Done → Joint t h (join_of t h).year
-joint t h = go (join_of t h) (ends t h)
+pub joint : (t h : List ℕ) (y : Year) → join_of t h ≡ Ok y → Joint t h y
+joint t h y = go (join_of t h) (ends t h)
   where
-    listed : (a : Reading) → in_hours a ≡ Done → a ≡ reading.Done
-    listed reading.Done e = refl
-    listed (reading.Refused f k) e = let x : ◌≡◌ {A = ℕ} 0 1 = cc in absurd (omega arith)
+    listed_in : (r : Result Year Refusal) → in_hours r ≡ Ok y → r ≡ done y
+    listed_in (Ok z) e = ap done (ap year_joined e)
+    listed_in (Err q) e = absurd (joined_refused y (InHours q) e)
 
-    go : (j : Joined) → Ends t h j → j.answer ≡ Done → Joint t h j.year
-    go j (in_terms f k p) e = let x : ◌≡◌ {A = ℕ} 0 1 = cc in absurd (omega arith)
-    go j (behind p) e =
-        let y = (term_list t).year in
-        let r = terms_done t p in
-        let q = hours_done y h r.0.begun r.0.no_course (listed (hours_list y h).answer e) in
+    go : (j : Result Year JoiningRefusal) → Ends t h j → j ≡ Ok y → Joint t h y
+    go j (in_terms q p) e = absurd (joined_refused y (InTerms q) e)
+    go j (behind f p) e =
+        let r = terms_done t f p in
+        let q = hours_done f h r.0.begun r.0.no_course y (listed_in (hours_list f h) e) in
         let z = q.0 in
         let many : z.terms ≡ length t / 16 = q.2.0 ∙ r.0.count in
         subst (Joint t h) q.4
         (record {
+          front = f;
           front_done = p;
           front_same = q.2;
           sound = begun_sound z q.1.begun (omega (arith, r.1, many));
@@ -229,25 +245,14 @@ joint t h = go (join_of t h) (ends t h)
           each_course = λ i l. rw q.2.0 (q.1.each i (omega (arith, q.1.count)));
         })
 
--- refused, the year is the empty one; the place is one of a record, or 0
-pub unjoined : (t h : List ℕ) → ((join_of t h).answer ≡ Done → ⊥) → (join_of t h).year ≡ empty_year
-unjoined t h = go (join_of t h) (ends t h)
-  where
-    by : (y : Year) (a : Reading) → (hours_list y h).answer ≡ a → (in_hours a ≡ Done → ⊥) → (hours_list y h).year ≡ empty_year
-    by y reading.Done e n = absurd (n refl)
-    by y (reading.Refused f k) e n = (hours_refused y h f k e).0
-
-    go : (j : Joined) → Ends t h j → (j.answer ≡ Done → ⊥) → j.year ≡ empty_year
-    go j (in_terms f k p) n = (terms_refused t f k p).0
-    go j (behind p) n = by (term_list t).year (hours_list (term_list t).year h).answer refl n
-
-pub place_few : (t h : List ℕ) → joining_place (join_of t h).answer ≤ 80
+-- refused, the place is one of a record, or 0
+pub place_few : (t h : List ℕ) → joining_place (join_of t h) ≤ 80
 place_few t h = go (join_of t h) (ends t h)
   where
-    by : (y : Year) (a : Reading) → (hours_list y h).answer ≡ a → joining_place (in_hours a) ≤ 80
-    by y reading.Done e = omega arith
-    by y (reading.Refused f k) e = (hours_refused y h f k e).1
+    by : (y : Year) (r : Result Year Refusal) → hours_list y h ≡ r → joining_place (in_hours r) ≤ 80
+    by y (Ok z) e = omega arith
+    by y (Err q) e = hours_refused y h q e
 
-    go : (j : Joined) → Ends t h j → joining_place j.answer ≤ 80
-    go j (in_terms f k p) = (terms_refused t f k p).1
-    go j (behind p) = by (term_list t).year (hours_list (term_list t).year h).answer refl
+    go : (j : Result Year JoiningRefusal) → Ends t h j → joining_place j ≤ 80
+    go j (in_terms q p) = terms_refused t q p
+    go j (behind y p) = by y (hours_list y h) refl

@@ -1,16 +1,15 @@
 -- Closed examples, by computation: year E from its hours, weights by both editions at each limit, each refusal in each list with its
 -- place, and which of several faults is told.
-use Rattle.std.specs.Prelude.{ℕ, ◌/◌, ◌%◌, List, [], ◌∷◌, ◌++◌, ◌≡◌, refl, take, replicate, set}
+use Rattle.std.specs.Prelude.{ℕ, ◌/◌, ◌%◌, List, [], ◌∷◌, ◌++◌, ◌≡◌, refl, Ok, take, replicate, set}
 use Rattle.year.specs.Doors.{empty_year}
 use Rattle.year.specs.Year.{term_of, weight}
 use Rattle.year.specs.Examples.{year_of, year_e}
 use Rattle.records.specs.Writing.{joined}
 use Rattle.records.specs.Examples.{padded, first_term, plain_term, plain_course, bytes_e}
 use Rattle.hours.specs.declared.Edition.TheVariants.{First, Second}
-use Rattle.hours.specs.declared.Joining.TheVariants.{Done}
 use Rattle.hours.specs.Numbers.{joining_number, joining_list, joining_place}
 use Rattle.hours.specs.Entries.{weight_by}
-use Rattle.hours.specs.Joining.{join_of}
+use Rattle.hours.specs.Joining.{join_of, year_joined}
 use Rattle.hours.specs.Computing.{computing}
 
 -- ---- lists
@@ -30,14 +29,14 @@ one_term = plain_term 0
 
 -- the list at fault, the number and the place of an answer
 abbrev told : List ℕ → List ℕ → ℕ × (ℕ × ℕ)
-told t h = let a = (join_of t h).answer in (joining_list a, (joining_number a, joining_place a))
+told t h = let a = join_of t h in (joining_list a, (joining_number a, joining_place a))
 
 -- what is told of one course with these hours, and its weight
 abbrev told_of : ℕ → ℕ → ℕ → ℕ × (ℕ × ℕ)
 told_of edition lecture laboratory = told one_term (hours_of 0 edition lecture laboratory 1)
 
 abbrev weight_of : ℕ → ℕ → ℕ → ℕ
-weight_of edition lecture laboratory = weight (join_of one_term (hours_of 0 edition lecture laboratory 1)).year 0
+weight_of edition lecture laboratory = weight (year_joined (join_of one_term (hours_of 0 edition lecture laboratory 1))) 0
 
 -- done; in the terms' list by a number at a place; in the hours list
 abbrev well : ℕ × (ℕ × ℕ)
@@ -59,12 +58,12 @@ abbrev pub hours_e : List ℕ
 hours_e = hours_of 0 1 2 5 3 ++ hours_of 1 2 1 3 3 ++ hours_of 2 1 0 4 3
 
 -- what is joined carries its sums, as year E does
-pub year_e_joined : join_of terms_e hours_e ≡ record { answer = Done; year = year_e }
+pub year_e_joined : join_of terms_e hours_e ≡ Ok year_e
 unfolding computing
 year_e_joined = refl
 
 -- and so it does with no hours: the sums of no course
-pub terms_e_joined : join_of terms_e [] ≡ record { answer = Done; year = year_of (term_of 0 4 0 3 ∷ term_of 0 6 0 3 ∷ []) [] }
+pub terms_e_joined : join_of terms_e [] ≡ Ok (year_of (term_of 0 4 0 3 ∷ term_of 0 6 0 3 ∷ []) [])
 unfolding computing
 terms_e_joined = refl
 
@@ -166,7 +165,8 @@ unfolding computing
 hours_zeros = (refl, refl, refl)
 
 -- refused in either list, the year is the empty one
-pub handed_back : ((join_of (terms_e ++ plain_hours 0) hours_e).year ≡ empty_year) × ((join_of terms_e (set hours_e 3 1)).year ≡ empty_year)
+pub handed_back : (year_joined (join_of (terms_e ++ plain_hours 0) hours_e) ≡ empty_year)
+    × (year_joined (join_of terms_e (set hours_e 3 1)) ≡ empty_year)
 unfolding computing
 handed_back = (refl, refl)
 

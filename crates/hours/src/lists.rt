@@ -1,97 +1,47 @@
 // The two lists, record by record up to the first fault.
 ghost use Rattle.std.specs.Prelude.{◌≡◌};
 ghost use Rattle.year.specs.Sound.{Sound};
-ghost use Rattle.hours.specs.Joining.{term_list, bad_hours, hours_list, in_hours, with_hours};
+ghost use Rattle.hours.specs.Joining.{term_list, bad_hours, hours_list};
 
-use crate::{Joined, Joining, LONGEST, entries};
-use records::{AsCourse, AsTerm, Fault, RECORD, Reading, Received};
-use year::{Year, by_hand};
+use crate::{LONGEST, entries};
+use records::{Fault, RECORD, Refusal};
+use year::Year;
 
 // The terms of a list that may hold nothing else.
-pub fn read_terms(s: &[u8]) -> Received
+pub fn read_terms(s: &[u8]) -> Result<Year, Refusal>
     ensures { result ≡ term_list s.now }
 {
-    let n = s.len();
-    if records::bad_length(n) {
-        return records::refused(Fault::Length, 0);
+    if records::bad_length(s.len()) {
+        return Err(Fault::Length.at(0));
     }
     let mut y = records::blank();
-    for k in 0..n / RECORD {
-        match entries::term_alone(s, k * RECORD, y.terms) {
-            AsTerm::Good(t) => {
-                let j = y.terms;
-                y.term[j] = t;
-                y.terms = j + 1;
-            }
-            AsTerm::Faulty(f) => {
-                return records::refused(f, k);
-            }
-        }
+    for k in 0..s.len() / RECORD {
+        let t = entries::term_alone(s, k * RECORD, y.terms).map_err(|f| f.at(k))?;
+        records::add_term(&mut y, t);
     }
-    Received {
-        answer: Reading::Done,
-        year: y,
-    }
+    Ok(y)
 }
 
 fn bad_hours(n: usize) -> bool
     ensures { result ≡ bad_hours n }
 {
-    (LONGEST < n) | (n % RECORD != 0)
+    LONGEST < n || n % RECORD != 0
 }
 
 // A year of terms alone, with a course more for each record of an hours list.
-fn read_hours(y: Year, s: &[u8]) -> Received
+pub fn read_hours(y: Year, s: &[u8]) -> Result<Year, Refusal>
     requires sound { Sound y }
-    requires courses_value { y.courses ≡ 0 }
+    requires no_course { y.courses ≡ 0 }
     ensures { result ≡ hours_list y s.now }
 {
-    let n = s.len();
-    if bad_hours(n) {
-        return records::refused(Fault::Length, 0);
+    if bad_hours(s.len()) {
+        return Err(Fault::Length.at(0));
     }
     let mut z = y;
-    for k in 0..n / RECORD {
-        match entries::hours_record(s, k * RECORD, z.courses, z.terms) {
-            AsCourse::Good(c) => {
-                let i = z.courses;
-                z.weight[i] = c.weight.0;
-                z.list[i] = c.list;
-                z.courses = i + 1;
-            }
-            AsCourse::Faulty(f) => {
-                return records::refused(f, k);
-            }
-        }
+    for k in 0..s.len() / RECORD {
+        let c = entries::hours_record(s, k * RECORD, z.courses, z.terms).map_err(|f| f.at(k))?;
+        records::add_course(&mut z, c);
     }
-    let whole = by_hand::with_sums(z);
-    Received {
-        answer: Reading::Done,
-        year: whole,
-    }
-}
-
-// An answer of the hours list as one of the joining.
-fn in_hours(a: Reading) -> Joining
-    ensures { result ≡ in_hours a }
-{
-    match a {
-        Reading::Done => Joining::Done,
-        Reading::Refused(f, k) => Joining::InHours(f, k),
-    }
-}
-
-pub fn with_hours(y: Year, s: &[u8]) -> Joined
-    requires sound { Sound y }
-    requires courses_value { y.courses ≡ 0 }
-    ensures { result ≡ with_hours y s.now }
-{
-    let r = read_hours(y, s);
-    let a = r.answer;
-    let z = r.year;
-    let answer = in_hours(a);
-    Joined {
-        answer: answer,
-        year: z,
-    }
+    records::sum_up(&mut z);
+    Ok(z)
 }

@@ -15,8 +15,8 @@ use Rattle.theory.proofs.OrderLaws.{weight_key, lightness, lighter_keyed, lighte
 use Rattle.theory.proofs.WalkLaws.{Up}
 use Rattle.rules.specs.declared.Verdict.TheVariants.{Stays}
 use Rattle.orders.proofs.OrderLaws.{order_long}
-use Rattle.neighbours.specs.Lightest.{upto, Rising, left_out, Lent, fires_by, Calm, Quiet}
-use Rattle.neighbours.specs.Opened.{at, open_in, Ordered, Gathers}
+use Rattle.neighbours.specs.Lightest.{upto, Rising, left_out, Lent, Summed, fires_by, Calm, Quiet}
+use Rattle.neighbours.specs.Opened.{at, open_in, opened, Ordered, Gathers}
 use Rattle.neighbours.specs.Verdicts.{rising_in, set_in, rest_in, verdict_in, verdict_by, Columns}
 use Rattle.neighbours.proofs.SetLaws.{Apart, Weighed, upto_more, rising_of, rising_same, lent_all, fires_all, lent_rest, fires_rest, calm_still, quiet_same, quiet_still}
 use Rattle.neighbours.proofs.GatheringLaws.{kept_from, keep_short, keep_light}
@@ -99,6 +99,9 @@ module _ (weight list : List ℕ) (n : ℕ) (c : Columns weight list n) where
     light = λ r l. c.light (at o r) (place_at r l);
     apart = place_apart;
   }
+
+  pub ordered_by : (order : List ℕ) → order ≡ o → Ordered weight list order n
+  ordered_by order is = subst (λ r. Ordered weight list r n) (sym is) ordered
 
   -- course i stands somewhere
   pub stands : (i : ℕ) → i < n → (r : ℕ) × (r < n) × (at o r ≡ i)
@@ -196,7 +199,10 @@ module _ (weight list : List ℕ) (n : ℕ) (c : Columns weight list n) where
 
     -- ---- the open courses gathered
 
-    module _ (u p : List ℕ) (count : ℕ) (g : Gathers (at weight) set (record { count = count; upto = u; place = p })) where
+    pub gathers_by : (order : List ℕ) → order ≡ o → {count : ℕ} {u p : List ℕ} → Gathers (at weight) (opened weight list order n j) count u p → Gathers (at weight) set count u p
+    gathers_by order is {count} {u} {p} g = subst (λ x. Gathers (at weight) (opened weight list x n j) count u p) is g
+
+    module _ {count : ℕ} {u p : List ℕ} (g : Gathers (at weight) set count u p) where
       weighed : Weighed (at weight) set u
       weighed = record { few = set_few; long = g.upto_long; sums = g.sums; up = set_up; small = set_small }
 
@@ -214,11 +220,12 @@ module _ (weight list : List ℕ) (n : ℕ) (c : Columns weight list n) where
       pub gathered_quiet : (a b : ℕ) → Quiet (at u) count a b → Quiet (upto (at weight) set) (length set) a b
       gathered_quiet a b quiet = quiet_same (length set) (at u) (upto (at weight) set) g.sums a b (subst (λ k. Quiet (at u) k a b) g.counted quiet)
 
-      pub gathered_rising : Rising count (at u)
-      gathered_rising = subst (λ k. Rising k (at u)) (sym g.counted) (rising_same (length set) (upto (at weight) set) (at u) (λ t l. sym (g.sums t l)) (rising_of (at weight) 0 set set_up))
-
-      pub gathered_small : at u count ≤ 64000
-      gathered_small = omega (arith, ap (at u) g.counted, g.sums (length set) (omega arith), set_small)
+      pub summed : Summed count u
+      summed = record {
+        few = count_few;
+        rising = subst (λ k. Rising k (at u)) (sym g.counted) (rising_same (length set) (upto (at weight) set) (at u) (λ t l. sym (g.sums t l)) (rising_of (at weight) 0 set set_up));
+        small = omega (arith, ap (at u) g.counted, g.sums (length set) (omega arith), set_small);
+      }
 
       pub all_lent : Lent u count count 0
       all_lent = subst (λ k. Lent u k k 0) (sym g.counted) (lent_all (at weight) set u weighed)
@@ -239,9 +246,6 @@ module _ (weight list : List ℕ) (n : ℕ) (c : Columns weight list n) where
 
         place_is : at p i ≡ r
         place_is = ap (at p) (sym is) ∙ g.places r within
-
-        pub place_few : at p i < 64
-        place_few = omega (arith, place_is, within, set_few)
 
         pub some_open : 0 < count
         some_open = omega (arith, g.counted, within)

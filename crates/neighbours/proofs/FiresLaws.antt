@@ -2,16 +2,15 @@
 use Prim.Native.Nat.{ℕ, zero, suc, ◌+◌, ◌-◌, ◌≤◌, ◌<◌}
 use mathlib.Core.Bool.{Bool, true, false, ◌&&◌, ◌||◌}
 use mathlib.Core.List.{List}
-use mathlib.Core.Logic.{◌⊎◌, inl, inr, ⊎_elim}
+use mathlib.Core.Logic.{◌⊎◌, ⊎_elim}
 use mathlib.Core.Path.{◌≡◌, refl, ap, ap₂, ◌∙◌}
 use native.Mathlib.Nat.{add-zero}
 use native.Mathlib.Decide.{dec_lt}
 use native.Mathlib.Omega.{arith}
-use lib.Dec.{leb, ltb, eqb}
-use lib.ListN.{length, get_or}
-use borrow.Author.Tests.{leb-true, ltb-true, eqb-true, eqb-false, le-leb, lt-ltb}
+use lib.Dec.{leb, ltb}
+use borrow.Author.Tests.{leb-true, ltb-true, le-leb, lt-ltb}
 use Rattle.theory.specs.Tests.{any}
-use Rattle.theory.proofs.TestLaws.{and_true, and_of, or_false, or_true, any_more, any_false, any_none}
+use Rattle.theory.proofs.TestLaws.{and_true, and_of, any_more, any_false, any_none}
 use Rattle.neighbours.specs.Lightest.{Rising, neighbours_by, fires_by, left_out, Lent}
 
 -- ---- tests
@@ -62,9 +61,6 @@ module _ {n : ℕ} {q : ℕ → ℕ} (r : Rising n q) where
 -- ---- out of an array
 
 module _ {u : List ℕ} {n out w : ℕ} (r : Lent u n out w) where
-  pub readable : (t : ℕ) → t ≤ n → (t < length u) × (out < t → (t + 1 < length u) × (w ≤ get_or u (t + 1) 0))
-  readable t h = (omega (arith, r.long), λ m. (omega (arith, r.longer (omega arith)), r.covers t m h))
-
   pub within : (s t : ℕ) → s ≤ t → t ≤ n → (left_out u out w s ≤ left_out u out w t) × (left_out u out w t ≤ 64000)
   within s t l h = (rises r.rising s t l h, omega (arith, rises r.rising t n h (omega arith), r.small))
 
@@ -159,31 +155,21 @@ near_heaviest {n} {q} r a b k' l h i m o = no_gap r a b i l (omega (arith, one_i
 
 -- ---- the tests of the code
 
-pub some_are : (n a : ℕ) → eqb n 0 || eqb a 0 ≡ false → 0 < n
-some_are n a e = omega (arith, eqb-false n 0 (or_false (eqb n 0) (eqb a 0) e).0)
-
 -- nothing is lighter than 0
-pub none_below_0 : (n : ℕ) (q : ℕ → ℕ) (a b : ℕ) → eqb n 0 || eqb a 0 ≡ true → fires_by q n a b ≡ false
+pub none_below_0 : (n : ℕ) (q : ℕ → ℕ) (a b : ℕ) → (n ≡ 0) ⊎ (a ≡ 0) → fires_by q n a b ≡ false
 unfolding fires_by
-none_below_0 n q a b e =
-    let none : (n ≡ 0) ⊎ (a ≡ 0) = ⊎_elim (λ p. inl (eqb-true n 0 p)) (λ p. inr (eqb-true a 0 p)) (or_true (eqb n 0) (eqb a 0) e) in
+none_below_0 n q a b none =
     any_none n (λ k'. any n (neighbours_by q n a b k'))
     (λ k' l. any_none n (neighbours_by q n a b k')
-    (λ k m. fails (neighbours_by q n a b k' k) (λ t. ⊎_elim (λ p. omega arith) (λ p. omega (arith, parts n q a b k' k t)) none)))
+    (λ k m. fails (neighbours_by q n a b k' k) (λ t. ⊎_elim (λ p. omega arith) (λ p. omega (arith, p, parts n q a b k' k t)) none)))
 
--- x is what the k' lightest weigh, y what the heaviest weighs
+-- none is behind a k' whose lightest reach the range, or come near to the heaviest
 pub none_behind :
-    {n : ℕ} {q : ℕ → ℕ} (r : Rising n q) (a b k' x y : ℕ)
+    {n : ℕ} {q : ℕ → ℕ} (r : Rising n q) (a b k' : ℕ)
     → a ≤ b
-    → x ≡ q k'
-    → y ≡ q n - q (n - 1)
-    → leb a x || leb y (x + (b - a + 1)) ≡ true
+    → (a ≤ q k') ⊎ (q n - q (n - 1) ≤ q k' + (b - a + 1))
     → (i : ℕ)
     → k' ≤ i
     → i < n
     → any n (neighbours_by q n a b i) ≡ false
-none_behind {n} {q} r a b k' x y l e f t i m o =
-    ⊎_elim
-    (λ p. lightest_reach r a b k' (omega (arith, leb-true a x p)) i m o)
-    (λ p. near_heaviest r a b k' l (omega (arith, leb-true y (x + (b - a + 1)) p)) i m o)
-    (or_true (leb a x) (leb y (x + (b - a + 1))) t)
+none_behind {n} {q} r a b k' l t i m o = ⊎_elim (λ p. lightest_reach r a b k' p i m o) (λ p. near_heaviest r a b k' l p i m o) t

@@ -4,29 +4,18 @@ use mathlib.Core.Bool.{Bool, true, false}
 use mathlib.Core.List.{List, [], ◌∷◌, ◌++◌, append-nil}
 use mathlib.Core.Path.{◌≡◌, refl, sym, ap, ap₂, ◌∙◌, subst}
 use native.Mathlib.Numerals.{add-one}
-use native.Mathlib.Decide.{ℕ_discrete, dec_lt}
+use native.Mathlib.Decide.{dec_lt}
 use native.Mathlib.Omega.{arith}
 use lib.ListN.{length, get_or, take, set, length-set, length-append, get_or-append}
 use lib.Seq.{get_or-set_same, get_or-set_other, get_or-take, get_or-append_seam, take-suc, take-length, take-append-le, length-take-le}
+use Rattle.std.specs.Int.{from_bool}
 use Rattle.theory.specs.Choice.{choose}
 use Rattle.theory.specs.Order.{keep}
 use Rattle.theory.specs.Sum.{weigh}
 use Rattle.neighbours.specs.Lightest.{upto, Rising, Calm}
 use Rattle.neighbours.specs.Opened.{at, open_in, opened, Ordered, Gathers}
-use Rattle.neighbours.specs.declared.Opened.{Opened}
 use Rattle.neighbours.proofs.SetLaws.{weigh_append}
 use Rattle.neighbours.proofs.FiresLaws.{rises}
-
--- ---- from the last place downwards
-
--- one place before those that fail
-pub none_from : (test : ℕ → Bool) (order : List ℕ) (n k : ℕ) → ((t : ℕ) → k ≤ t → t < n → test (at order t) ≡ false) → test (at order (k - 1)) ≡ false
-    → (t : ℕ) → k - 1 ≤ t → t < n → test (at order t) ≡ false
-none_from test order n k none this t h l = go (ℕ_discrete t (k - 1))
-  where
-    go : Dec (t ≡ k - 1) → test (at order t) ≡ false
-    go (yes e) = ap (λ x. test (at order x)) e ∙ this
-    go (no d) = none t (omega (arith, d)) l
 
 -- ---- what is kept of a list
 
@@ -73,7 +62,7 @@ keep_light w test (g ∷ L) h = go (test g) (keep_light w test L (λ s l. h (suc
 
 -- ---- one place more
 
-pub gathers_none : (w : ℕ → ℕ) (u p : List ℕ) → length u ≡ 65 → at u 0 ≡ 0 → length p ≡ 64 → Gathers w [] (record { count = 0; upto = u; place = p })
+pub gathers_none : (w : ℕ → ℕ) (u p : List ℕ) → length u ≡ 65 → at u 0 ≡ 0 → length p ≡ 64 → Gathers w [] 0 u p
 gathers_none w u p long none short = record {
   counted = refl;
   sums = λ t h. let e : t ≡ 0 = omega arith in rw e none;
@@ -102,14 +91,11 @@ module _ (weight list order : List ℕ) (n j k : ℕ) (o : Ordered weight list o
       ap (keep (open_in weight list j)) (ap (λ m. take m order) (add-one k) ∙ take-suc order k 0 (omega (arith, o.long)))
       ∙ keep_more (open_in weight list j) (take k order) i
 
-  module _ (r : Opened) (g : Gathers (at weight) before r) where
-    abbrev c : ℕ
-    c = r.count
-
+  module _ {c : ℕ} {u p : List ℕ} (g : Gathers (at weight) before c u p) where
     pub count_few : c ≤ k
     count_few = omega (arith, g.counted, keep_short (open_in weight list j) (take k order), length-take-le k order (omega (arith, o.long)))
 
-    pub sum_light : at r.upto c ≤ 1000 * k
+    pub sum_light : at u c ≤ 1000 * k
     sum_light =
         let long = length-take-le k order (omega (arith, o.long)) in
         omega (
@@ -123,25 +109,28 @@ module _ (weight list order : List ℕ) (n j k : ℕ) (o : Ordered weight list o
         )
 
     -- what is stored at each place
-    abbrev stored : ℕ → Opened
-    stored m = record { count = m; upto = set r.upto (c + 1) (at r.upto c + at weight i); place = set r.place i c }
+    abbrev u' : List ℕ
+    u' = set u (c + 1) (at u c + at weight i)
 
-    kept_sum : (t : ℕ) → t ≤ c → at (stored c).upto t ≡ upto (at weight) before t
+    abbrev p' : List ℕ
+    p' = set p i c
+
+    kept_sum : (t : ℕ) → t ≤ c → at u' t ≡ upto (at weight) before t
     kept_sum t h =
-        get_or-set_other r.upto (c + 1) t (at r.upto c + at weight i) 0 (λ e. omega arith)
+        get_or-set_other u (c + 1) t (at u c + at weight i) 0 (λ e. omega arith)
         ∙ g.sums t (omega (arith, g.counted))
 
-    kept_place : (t : ℕ) → t < length before → at (stored c).place (at before t) ≡ t
-    kept_place t h = get_or-set_other r.place i (at before t) c 0 (other t h) ∙ g.places t h
+    kept_place : (t : ℕ) → t < length before → at p' (at before t) ≡ t
+    kept_place t h = get_or-set_other p i (at before t) c 0 (other t h) ∙ g.places t h
 
-    upto_long : length (stored c).upto ≡ 65
-    upto_long = length-set r.upto (c + 1) (at r.upto c + at weight i) ∙ g.upto_long
+    upto_long : length u' ≡ 65
+    upto_long = length-set u (c + 1) (at u c + at weight i) ∙ g.upto_long
 
-    place_long : length (stored c).place ≡ 64
-    place_long = length-set r.place i c ∙ g.place_long
+    place_long : length p' ≡ 64
+    place_long = length-set p i c ∙ g.place_long
 
     -- where the course is not open
-    passed : Gathers (at weight) before (stored c)
+    passed : Gathers (at weight) before c u' p'
     passed = record {
       counted = g.counted;
       sums = λ t h. kept_sum t (omega (arith, g.counted));
@@ -151,7 +140,7 @@ module _ (weight list order : List ℕ) (n j k : ℕ) (o : Ordered weight list o
     }
 
     -- where it is open
-    joined : Gathers (at weight) (before ++ i ∷ []) (stored (c + 1))
+    joined : Gathers (at weight) (before ++ i ∷ []) (c + 1) u' p'
     joined = record {
       counted = omega (arith, g.counted, long);
       sums = λ t h. sum t h (dec_lt c t);
@@ -169,12 +158,12 @@ module _ (weight list order : List ℕ) (n j k : ℕ) (o : Ordered weight list o
             ∙ weigh_append (at weight) before (i ∷ [])
             ∙ ap₂ ◌+◌ (ap (weigh (at weight)) (sym (take-length before))) (omega arith)
 
-        sum : (t : ℕ) → t ≤ length (before ++ i ∷ []) → Dec (c < t) → at (stored (c + 1)).upto t ≡ upto (at weight) (before ++ i ∷ []) t
+        sum : (t : ℕ) → t ≤ length (before ++ i ∷ []) → Dec (c < t) → at u' t ≡ upto (at weight) (before ++ i ∷ []) t
         sum t h (yes d) =
             let last : t ≡ c + 1 = omega (arith, long, g.counted) in
             let same : c + 1 ≡ length (before ++ i ∷ []) = omega (arith, long, g.counted) in
-            ap (at (stored (c + 1)).upto) last
-            ∙ get_or-set_same r.upto (c + 1) (at r.upto c + at weight i) 0 (omega (arith, g.upto_long, count_few, o.few))
+            ap (at u') last
+            ∙ get_or-set_same u (c + 1) (at u c + at weight i) 0 (omega (arith, g.upto_long, count_few, o.few))
             ∙ ap (λ x. x + at weight i) (g.sums c (omega (arith, g.counted)) ∙ ap (upto (at weight) before) g.counted)
             ∙ sym all
             ∙ ap (upto (at weight) (before ++ i ∷ [])) (sym same ∙ sym last)
@@ -182,45 +171,29 @@ module _ (weight list order : List ℕ) (n j k : ℕ) (o : Ordered weight list o
             kept_sum t (omega (arith, d))
             ∙ ap (weigh (at weight)) (sym (take-append-le t before (i ∷ []) (omega (arith, d, g.counted))))
 
-        place : (t : ℕ) → t < length (before ++ i ∷ []) → Dec (t < c) → at (stored (c + 1)).place (at (before ++ i ∷ []) t) ≡ t
+        place : (t : ℕ) → t < length (before ++ i ∷ []) → Dec (t < c) → at p' (at (before ++ i ∷ []) t) ≡ t
         place t h (yes d) =
-            ap (at (stored (c + 1)).place) (get_or-append before (i ∷ []) 0 t (omega (arith, g.counted)))
+            ap (at p') (get_or-append before (i ∷ []) 0 t (omega (arith, g.counted)))
             ∙ kept_place t (omega (arith, g.counted))
         place t h (no d) =
             let last : t ≡ length before = omega (arith, long, d, g.counted) in
-            ap (λ x. at (stored (c + 1)).place (at (before ++ i ∷ []) x)) last
-            ∙ ap (at (stored (c + 1)).place) (get_or-append_seam before i [] 0)
-            ∙ get_or-set_same r.place i c 0 (omega (arith, g.place_long, o.numbered k l))
+            ap (λ x. at p' (at (before ++ i ∷ []) x)) last
+            ∙ ap (at p') (get_or-append_seam before i [] 0)
+            ∙ get_or-set_same p i c 0 (omega (arith, g.place_long, o.numbered k l))
             ∙ g.counted
             ∙ sym last
 
     -- m is 1 where the course is open, and 0 where it is not
-    pub gathers_more : (m : ℕ) → (open_in weight list j i ≡ true → m ≡ 1) → (open_in weight list j i ≡ false → m ≡ 0)
-        → Gathers (at weight) (opened weight list order (k + 1) j) (stored (c + m))
-    gathers_more m one none = go (open_in weight list j i) refl
-      where
-        go : (b : Bool) → open_in weight list j i ≡ b → Gathers (at weight) (opened weight list order (k + 1) j) (stored (c + m))
-        go true e =
-            let is : opened weight list order (k + 1) j ≡ before ++ i ∷ [] = opened_more ∙ ap (λ b. before ++ choose b (i ∷ []) []) e in
-            subst (λ x. Gathers (at weight) x (stored (c + m))) (sym is) (subst (λ x. Gathers (at weight) (before ++ i ∷ []) (stored (c + x))) (sym (one e)) joined)
-        go false e =
-            let is : opened weight list order (k + 1) j ≡ before = opened_more ∙ ap (λ b. before ++ choose b (i ∷ []) []) e ∙ append-nil before in
-            let same : c + m ≡ c = omega (arith, none e) in
-            subst (λ x. Gathers (at weight) x (stored (c + m))) (sym is) (subst (λ x. Gathers (at weight) before (stored x)) (sym same) passed)
+    pub gathers_more : (is : Bool) → is ≡ open_in weight list j i → (m : ℕ) → m ≡ from_bool is → Gathers (at weight) (opened weight list order (k + 1) j) (c + m) u' p'
+    gathers_more true e m one =
+        let is : opened weight list order (k + 1) j ≡ before ++ i ∷ [] = opened_more ∙ ap (λ b. before ++ choose b (i ∷ []) []) (sym e) in
+        subst (λ x. Gathers (at weight) x (c + m) u' p') (sym is) (subst (λ x. Gathers (at weight) (before ++ i ∷ []) (c + x) u' p') (sym one) joined)
+    gathers_more false e m none =
+        let is : opened weight list order (k + 1) j ≡ before = opened_more ∙ ap (λ b. before ++ choose b (i ∷ []) []) (sym e) ∙ append-nil before in
+        let same : c + m ≡ c = omega (arith, none) in
+        subst (λ x. Gathers (at weight) x (c + m) u' p') (sym is) (subst (λ x. Gathers (at weight) before x u' p') (sym same) passed)
 
 -- ---- sums that rise
-
--- the first, and one more, that does not exceed what all before it weigh but the heaviest of those by more than s
-pub first : (q : ℕ → ℕ) (k : ℕ) {s : ℕ} → k ≡ 0 → q 1 ≤ s → q (k + 1) ≤ s + q (k - 1) + q k
-first q k e h = omega (arith, ap (λ x. q (x + 1)) e)
-
-pub flat_more : (q : ℕ → ℕ) (s t : ℕ) → ((k : ℕ) → k < t → q (k + 1) ≤ s + q (k - 1) + q k) → q (t + 1) ≤ s + q (t - 1) + q t
-    → (k : ℕ) → k < t + 1 → q (k + 1) ≤ s + q (k - 1) + q k
-flat_more q s t flat this k l = go (ℕ_discrete k t)
-  where
-    go : Dec (k ≡ t) → q (k + 1) ≤ s + q (k - 1) + q k
-    go (yes e) = rw e this
-    go (no d) = flat k (omega (arith, d))
 
 module _ (n : ℕ) (q : ℕ → ℕ) (rising : Rising n q) (s b : ℕ) where
   -- the heaviest, which is the last, is no more than b

@@ -3,6 +3,7 @@
 use Prim.Native.Nat.{ℕ, zero, suc, ◌+◌, ◌-◌, ◌≤◌, ◌<◌}
 use mathlib.Core.Bool.{Bool, true, false, not, ◌&&◌}
 use mathlib.Core.List.{List, [], ◌∷◌, ◌++◌}
+use mathlib.Core.Logic.{inr}
 use mathlib.Core.Path.{◌≡◌, refl, sym, ap, ap₂, ◌∙◌, subst}
 use native.Mathlib.Numerals.{add-one}
 use native.Mathlib.Decide.{dec_lt}
@@ -16,7 +17,7 @@ use Rattle.theory.specs.Order.{keep}
 use Rattle.theory.specs.Sum.{weigh}
 use Rattle.theory.specs.Tests.{any}
 use Rattle.theory.specs.Neighbours.{neighbours, fires}
-use Rattle.theory.proofs.TestLaws.{or_right, same_tests, any_true, any_of, any_none, any_same}
+use Rattle.theory.proofs.TestLaws.{same_tests, any_true, any_of, any_none, any_same}
 use Rattle.theory.proofs.NeighbourLaws.{up_keep}
 use Rattle.theory.proofs.WalkLaws.{Up}
 use Rattle.neighbours.specs.Lightest.{upto, Rising, neighbours_by, fires_by, left_out, Lent, Calm, NoneReach, Quiet}
@@ -304,7 +305,7 @@ module _ (w : ℕ → ℕ) (set : List ℕ) (s a b : ℕ) (up : Up w 0 set) (cal
             let none : a - w i ≡ 0 = omega (arith, d) in
             fires_by_lem w (rest i set) (a - w i) (b - w i)
             ∙ ap (λ x. fires_by (upto w (rest i set)) (length (rest i set)) x (b - w i)) none
-            ∙ none_below_0 (length (rest i set)) (upto w (rest i set)) 0 (b - w i) (or_right (eqb (length (rest i set)) 0) true refl)
+            ∙ none_below_0 (length (rest i set)) (upto w (rest i set)) 0 (b - w i) (inr refl)
 
   -- rule 12 says nothing of a term, nor of any course in it
   pub calm_still : (fires w set a b ≡ false)

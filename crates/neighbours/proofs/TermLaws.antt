@@ -6,17 +6,29 @@ use mathlib.Core.Path.{◌≡◌, sym, ap, ap₂, ◌∙◌}
 use native.Mathlib.Decide.{dec_lt}
 use native.Mathlib.Omega.{arith}
 use borrow.Author.Tests.{le-ltb, ne_eqb}
+use Rattle.std.specs.Prelude.{Result, Ok, Err}
 use Rattle.theory.specs.Neighbours.{fires}
 use Rattle.theory.proofs.OrderLaws.{lighter_rises}
 use Rattle.year.specs.declared.Term.{Term}
+use Rattle.year.specs.declared.Year.{Year}
+use Rattle.rules.specs.declared.Rule.{Rule}
 use Rattle.orders.specs.Orders.{last_weight}
 use Rattle.neighbours.specs.Opened.{at, open_in}
 use Rattle.neighbours.specs.Verdicts.{rising_in, set_in, verdict_in, cannot_in, Columns, RightIn, Right}
 use Rattle.neighbours.specs.declared.Says.{Says}
-use Rattle.neighbours.specs.declared.Says.TheVariants.{Nothing, Courses, NoPlan}
+use Rattle.neighbours.specs.declared.Says.TheVariants.{Nothing, Courses}
 use Rattle.neighbours.proofs.ColumnLaws.{stands, calm_says, light_calm}
 
-module _ (weight list : List ℕ) (n : ℕ) (c : Columns weight list n) (j : ℕ) where
+module _ (y : Year) (c : Columns y.weight y.list y.courses) (j : ℕ) where
+  abbrev weight : List ℕ
+  weight = y.weight
+
+  abbrev list : List ℕ
+  list = y.list
+
+  abbrev n : ℕ
+  n = y.courses
+
   -- with no open course from a place on, none is heavier than the course before that place, as the order rises
   pub last_heaviest : (order : List ℕ) → order ≡ rising_in weight n
       → (last : ℕ) → last ≤ n → ((t : ℕ) → last ≤ t → t < n → open_in weight list j (at order t) ≡ false)
@@ -43,15 +55,15 @@ module _ (weight list : List ℕ) (n : ℕ) (c : Columns weight list n) (j : ℕ
     cannot_is v e =
         rw (le-ltb t.high.0 p fits) (ap₂ (fires (at weight) (set_in weight list n j)) (sym least) (sym most) ∙ e)
 
-    pub right_of : (r : Says) → RightIn weight list n j a b r → Right weight list n j t p r
-    right_of Nothing h =
-        (cannot_is false h.0, λ i l. ap₂ (λ x y. verdict_in weight list n j x y i) (sym least) (sym most) ∙ h.1 i l)
-    right_of Courses h = cannot_is false h
-    right_of NoPlan h = cannot_is true h
+    pub right_of : (r : Result Says Rule) → RightIn y j a b r → Right y j t p r
+    right_of (Ok Nothing) h =
+        (cannot_is false h.0, λ i l. ap₂ (λ p q. verdict_in weight list n j p q i) (sym least) (sym most) ∙ h.1 i l)
+    right_of (Ok Courses) h = cannot_is false h
+    right_of (Err r) h = (cannot_is true h.0, h.1)
 
     -- no open course is heavier than what the term still takes, nor than the range is wide
     pub light_says : (top : ℕ) → ((i : ℕ) → i < n → open_in weight list j i ≡ true → at weight i ≤ top) → a ≤ b → top ≤ b → top ≤ b - a + 1
-        → Right weight list n j t p Nothing
+        → Right y j t p (Ok Nothing)
     light_says top light range taken narrow =
-        right_of Nothing
+        right_of (Ok Nothing)
         (calm_says weight list n c j (b - a + 1) a b (light_calm weight list n c j top (b - a + 1) b light narrow taken) (omega arith) (omega arith))

@@ -1,6 +1,7 @@
 -- A year out of its columns: rule 12 there is rule 12.
 use Prim.Native.Nat.{ℕ, ◌≤◌, ◌<◌}
 use mathlib.Core.Bool.{false}
+use mathlib.Core.List.{List}
 use mathlib.Core.Path.{◌≡◌, refl, sym, ap, ◌∙◌}
 use native.Mathlib.Omega.{arith}
 use lib.ListN.{get_or}
@@ -12,8 +13,9 @@ use Rattle.year.specs.declared.Year.{Year}
 use Rattle.year.proofs.SumLaws.{sums_read, none_open_lem}
 use Rattle.rules.specs.Spares.{up}
 use Rattle.rules.specs.Neighbours.{needs, takes, cannot_be, verdict12}
-use Rattle.neighbours.specs.Opened.{open_in}
+use Rattle.neighbours.specs.Opened.{open_in, Ordered}
 use Rattle.neighbours.specs.Verdicts.{rising_in, verdict_in, cannot_in, Columns}
+use Rattle.neighbours.proofs.ColumnLaws.{ordered_by}
 
 module _ (y : Year) where
   pub rising_is : up y ≡ rising_in y.weight y.courses
@@ -36,6 +38,9 @@ module _ (y : Year) (s : Sound y) where
     listed = omega (arith, s);
     light = λ i l. (s.course_sound i l).weight_most;
   }
+
+  pub in_order : (order : List ℕ) → order ≡ up y → Ordered y.weight y.list order y.courses
+  in_order order e = ordered_by y.weight y.list y.courses columns_of order (e ∙ rising_is y)
 
   module _ (j : ℕ) (l : j < y.terms) where
     pub range_of : (needs y j ≤ takes y j) × (takes y j ≤ 64000)

@@ -36,6 +36,12 @@ pub record Lent (u : List ℕ) (n out w : ℕ) : Type 0 where
   pub rising : Rising n (left_out u out w)
   pub small : left_out u out w n ≤ 64000
 
+-- the array u has it for all of so many courses
+pub record Summed (count : ℕ) (u : List ℕ) : Type 0 where
+  pub few : count ≤ 64
+  pub rising : Rising count (λ t. get_or u t 0)
+  pub small : get_or u count 0 ≤ 64000
+
 -- no one of n exceeds b, nor by more than s what all before it weigh but the heaviest of those
 abbrev pub Calm : (ℕ → ℕ) → ℕ → ℕ → ℕ → Type 0
 Calm q n s b = (t : ℕ) → t < n → (q (t + 1) ≤ b + q t) × (q (t + 1) ≤ s + q (t - 1) + q t)

@@ -3,7 +3,6 @@ use Rattle.std.specs.Prelude.{ℕ, ◌≤◌, ◌<◌, Bool, List, ◌≡◌, le
 use Rattle.theory.specs.Order.{keep}
 use Rattle.year.specs.Year.{course_in, is_open}
 use Rattle.neighbours.specs.Lightest.{upto}
-use Rattle.neighbours.specs.declared.Opened.{Opened}
 
 abbrev pub at : List ℕ → ℕ → ℕ
 at w i = get_or w i 0
@@ -26,10 +25,10 @@ pub record Ordered (weight list order : List ℕ) (n : ℕ) : Type 0 where
   pub light : (r : ℕ) → r < n → at weight (at order r) ≤ 1000
   pub apart : (r q : ℕ) → r < n → q < n → at order r ≡ at order q → r ≡ q
 
--- how many of a set there are, what the lightest weigh, and the place of each
-pub record Gathers (w : ℕ → ℕ) (set : List ℕ) (r : Opened) : Type 0 where
-  pub counted : r.count ≡ length set
-  pub sums : (t : ℕ) → t ≤ length set → at r.upto t ≡ upto w set t
-  pub places : (k : ℕ) → k < length set → at r.place (at set k) ≡ k
-  pub upto_long : length r.upto ≡ 65
-  pub place_long : length r.place ≡ 64
+-- how many of a set there are, what the lightest weigh (in u), and the place of each (in p)
+pub record Gathers (w : ℕ → ℕ) (set : List ℕ) (count : ℕ) (u p : List ℕ) : Type 0 where
+  pub counted : count ≡ length set
+  pub sums : (t : ℕ) → t ≤ length set → at u t ≡ upto w set t
+  pub places : (k : ℕ) → k < length set → at p (at set k) ≡ k
+  pub upto_long : length u ≡ 65
+  pub place_long : length p ≡ 64

@@ -1,5 +1,6 @@
 -- Rule 12's verdicts out of the columns of a year, and as the code finds them.
 use Rattle.std.specs.Prelude.{ℕ, ◌-◌, ◌≤◌, ◌<◌, Bool, true, false, not, ◌||◌, List, ◌≡◌, eqb, ltb, length}
+use Rattle.std.specs.Prelude.{Option, Some, None, Result, Ok, Err}
 use Rattle.theory.specs.Choice.{choose}
 use Rattle.theory.specs.Order.{lighter, order, keep}
 use Rattle.theory.specs.Neighbours.{fires}
@@ -7,13 +8,16 @@ use Rattle.year.specs.Year.{term_at}
 use Rattle.year.specs.Sums.{fixed_credits}
 use Rattle.year.specs.declared.Term.{Term}
 use Rattle.year.specs.declared.Year.{Year}
+use Rattle.rules.specs.declared.Rule.{Rule}
+use Rattle.rules.specs.declared.Rule.TheVariants.{Neighbours}
 use Rattle.rules.specs.declared.Verdict.{Verdict}
 use Rattle.rules.specs.declared.Verdict.TheVariants.{Stays, Struck, Fixed}
 use Rattle.neighbours.specs.Lightest.{left_out, fires_by}
 use Rattle.neighbours.specs.Opened.{at, open_in, opened, Gathers}
 use Rattle.neighbours.specs.declared.First.{First}
+use Rattle.neighbours.specs.declared.Opened.{Opened}
 use Rattle.neighbours.specs.declared.Says.{Says}
-use Rattle.neighbours.specs.declared.Says.TheVariants.{Nothing, Courses, NoPlan}
+use Rattle.neighbours.specs.declared.Says.TheVariants.{Nothing, Courses}
 
 -- ---- out of the columns
 
@@ -59,36 +63,43 @@ pub record Columns (weight list : List ℕ) (n : ℕ) : Type 0 where
   pub listed : n ≤ length list
   pub light : (i : ℕ) → i < n → at weight i ≤ 1000
 
--- the open courses of term j are gathered, and the range is one
-pub record Gathered (weight list : List ℕ) (n j : ℕ) (u p : List ℕ) (count a b : ℕ) : Type 0 where
-  pub columns : Columns weight list n
-  pub term : j < 16
-  pub gathers : Gathers (at weight) (set_in weight list n j) (record { count = count; upto = u; place = p })
-  pub range : a ≤ b
-  pub small : b ≤ 64000
+-- the open courses of term j are gathered
+abbrev pub Gathered : Year → ℕ → Opened → Type 0
+Gathered y j o = Gathers (at y.weight) (set_in y.weight y.list y.courses j) o.count o.upto o.place
 
--- the first course from `start` on that has a verdict, and the verdict; n where there is none
-pub record IsFirst (weight list : List ℕ) (n j a b start : ℕ) (r : First) : Type 0 where
-  pub from : start ≤ r.course
-  pub upto : r.course ≤ n
-  pub before : (k : ℕ) → start ≤ k → k < r.course → verdict_in weight list n j a b k ≡ Stays
-  pub here : r.course < n → r.verdict ≡ verdict_in weight list n j a b r.course
+-- no course from `start` on and before `end` has a verdict
+abbrev pub NoneFrom : Year → ℕ → ℕ → ℕ → ℕ → ℕ → Type 0
+NoneFrom y j a b start end = (k : ℕ) → start ≤ k → k < end → verdict_in y.weight y.list y.courses j a b k ≡ Stays
+
+-- the first course from `start` on that has a verdict, and the verdict
+pub record FirstAt (y : Year) (j a b start : ℕ) (f : First) : Type 0 where
+  pub from : start ≤ f.course
+  pub within : f.course < y.courses
+  pub before : NoneFrom y j a b start f.course
+  pub here : f.verdict ≡ verdict_in y.weight y.list y.courses j a b f.course
+  pub speaks : f.verdict ≡ Stays → ⊥
+
+-- that, or that there is none
+abbrev pub IsFirst : Year → ℕ → ℕ → ℕ → ℕ → Option First → Type 0
+IsFirst y j a b start None = NoneFrom y j a b start y.courses
+IsFirst y j a b start (Some f) = FirstAt y j a b start f
 
 -- what is said of the open courses of term j in the range a to b
-abbrev pub RightIn : List ℕ → List ℕ → ℕ → ℕ → ℕ → ℕ → Says → Type 0
-RightIn weight list n j a b Nothing =
-    (fires (at weight) (set_in weight list n j) a b ≡ false) × ((i : ℕ) → i < n → verdict_in weight list n j a b i ≡ Stays)
-RightIn weight list n j a b Courses = fires (at weight) (set_in weight list n j) a b ≡ false
-RightIn weight list n j a b NoPlan = fires (at weight) (set_in weight list n j) a b ≡ true
+abbrev pub RightIn : Year → ℕ → ℕ → ℕ → Result Says Rule → Type 0
+RightIn y j a b (Ok Nothing) =
+    (fires (at y.weight) (set_in y.weight y.list y.courses j) a b ≡ false)
+    × ((i : ℕ) → i < y.courses → verdict_in y.weight y.list y.courses j a b i ≡ Stays)
+RightIn y j a b (Ok Courses) = fires (at y.weight) (set_in y.weight y.list y.courses j) a b ≡ false
+RightIn y j a b (Err r) = (fires (at y.weight) (set_in y.weight y.list y.courses j) a b ≡ true) × (r ≡ Neighbours)
 
 -- what is said of term j, which is t with p credits fixed
-abbrev pub Right : List ℕ → List ℕ → ℕ → ℕ → Term → ℕ → Says → Type 0
-Right weight list n j t p Nothing =
-    (cannot_in weight list n j t p ≡ false)
-    × ((i : ℕ) → i < n → verdict_in weight list n j (t.low.0 - p) (t.high.0 - p) i ≡ Stays)
-Right weight list n j t p Courses = cannot_in weight list n j t p ≡ false
-Right weight list n j t p NoPlan = cannot_in weight list n j t p ≡ true
+abbrev pub Right : Year → ℕ → Term → ℕ → Result Says Rule → Type 0
+Right y j t p (Ok Nothing) =
+    (cannot_in y.weight y.list y.courses j t p ≡ false)
+    × ((i : ℕ) → i < y.courses → verdict_in y.weight y.list y.courses j (t.low.0 - p) (t.high.0 - p) i ≡ Stays)
+Right y j t p (Ok Courses) = cannot_in y.weight y.list y.courses j t p ≡ false
+Right y j t p (Err r) = (cannot_in y.weight y.list y.courses j t p ≡ true) × (r ≡ Neighbours)
 
--- the same of a year
-abbrev pub SaysOf : Year → ℕ → Says → Type 0
-SaysOf y j r = Right y.weight y.list y.courses j (term_at y j) (fixed_credits y j) r
+-- the same, as the year has it
+abbrev pub SaysOf : Year → ℕ → Result Says Rule → Type 0
+SaysOf y j r = Right y j (term_at y j) (fixed_credits y j) r

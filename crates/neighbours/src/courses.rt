@@ -1,94 +1,63 @@
 // The courses of a term in rising number: the first that has a verdict, and what is left behind it is read anew.
 ghost use Rattle.std.specs.Prelude.{◌≡◌, ◌≤◌, ◌<◌};
-ghost use Rattle.year.specs.Sound.{Sound};
 ghost use Rattle.rules.specs.Step.{live, joined, over_courses};
 ghost use Rattle.rules.specs.Spares.{up};
 ghost use Rattle.rules.specs.Neighbours.{needs, takes, rule12_course};
-ghost use Rattle.frame.specs.State.{held, year_in, step_in};
+ghost use Rattle.frame.specs.State.{year_in, step_in};
 ghost use Rattle.neighbours.specs.Verdicts.{Gathered, IsFirst};
 
-use crate::{First, Range, gathering, screen, verdicts};
+use crate::{First, Opened, Range};
 use frame::State;
 use rules::Verdict;
 use year::pairs;
 
 // The first course from `start` on that has a verdict, the open courses of term j being gathered.
-fn first_of(
-    weight: &[u32],
-    list: &[u16],
-    upto: &[u32],
-    place: &[u8],
-    count: usize,
-    range: Range,
-    n: usize,
-    j: usize,
-    start: usize,
-) -> First
-    requires gathered { Gathered weight.now list.now n j upto.now place.now count range.least.0 range.most.0 }
-    requires start_le_n { start ≤ n }
-    ensures { IsFirst weight.now list.now n j range.least.0 range.most.0 start result }
+fn first_of(s: &State, opened: &Opened, range: Range, j: usize, start: usize) -> Option<First>
+    requires gathered { Gathered (year_in s.now) j opened.now }
+    requires is_term { j < 16 }
+    requires within { start ≤ s.now.courses }
+    ensures { IsFirst (year_in s.now) j range.least.0 range.most.0 start result }
 {
-    let mut i = start;
-    while i < n {
-        let c = pairs::course_in(weight, list, i);
+    for course in start..s.courses {
+        let c = pairs::course_in(s.weight, &s.list, course);
         if pairs::is_open(c, j) {
-            let v = verdicts::verdict(upto, count, place[i] as usize, c.weight, range);
-            if let Verdict::Stays = v {} else {
-                return First {
-                    course: i,
-                    verdict: v,
-                };
+            let verdict = opened.verdict(opened.place[course] as usize, c.weight, range);
+            if verdict != Verdict::Stays {
+                return Some(First { course, verdict });
             }
         }
-        i += 1;
     }
-    First {
-        course: n,
-        verdict: Verdict::Stays,
-    }
+    None
 }
 
 // The first from `start` on in a state: none where it can fire on no rest of the open courses.
-fn next_verdict(s: State, weight: &[u32], rising: &[u8], j: usize, start: usize) -> First
-    requires sound { Sound (year_in weight.now s) }
-    requires rising_value { rising.now ≡ up (year_in weight.now s) }
-    requires j_lt_terms { (j < s.terms) × (start ≤ s.courses) }
-    ensures { IsFirst weight.now s.list s.courses j (needs (year_in weight.now s) j) (takes (year_in weight.now s) j) start result }
+fn next_verdict(s: &State, rising: &[u8], j: usize, start: usize) -> Option<First>
+    requires from_lightest { rising.now ≡ up (year_in s.now) }
+    requires is_term { j < s.now.terms }
+    requires within { start ≤ s.now.courses }
+    ensures { IsFirst (year_in s.now) j (needs (year_in s.now) j) (takes (year_in s.now) j) start result }
 {
-    let t = s.term[j];
-    let u = s.sums[j];
-    let range = verdicts::range_of(t, u.fixed);
-    let n = s.courses;
-    let list = s.list;
-    let g = gathering::gathered(weight, &list, rising, n, j);
-    let upto = g.upto;
-    let place = g.place;
-    if screen::may_fire(&upto, g.count, range) {
-        return first_of(weight, &list, &upto, &place, g.count, range, n, j, start);
+    let range = Range::of(s, j);
+    let opened = Opened::gathered(s, rising, j);
+    if !opened.may_fire(range) {
+        return None;
     }
-    First {
-        course: n,
-        verdict: Verdict::Stays,
-    }
+    first_of(s, &opened, range, j, start)
 }
 
-// The courses of term j of a state that goes on, one after the other.
-pub fn each_course(s: State, weight: &[u32], rising: &[u8], j: usize) -> State
-    requires sound { Sound (year_in weight.now s) }
-    requires rising_value { rising.now ≡ up (year_in weight.now s) }
-    requires j_lt_terms { (j < s.terms) × (s.rule ≡ 0) }
-    ensures { result ≡ held (joined (step_in weight.now s) (over_courses (rule12_course j) (live (year_in weight.now s)))) }
+// The courses of term j, one after the other: each step reads anew what the one before it left.
+pub fn each_course(s: &mut State, rising: &[u8], j: usize)
+    requires from_lightest { rising.now ≡ up (year_in s.old) }
+    requires is_term { j < s.old.terms }
+    ensures { step_in s.new ≡ joined (step_in s.old) (over_courses (rule12_course j) (live (year_in s.old))) }
 {
-    let mut z = s;
-    let mut i = 0;
-    while i < s.courses {
-        let f = next_verdict(z, weight, rising, j, i);
-        i = f.course;
-        if i < s.courses {
-            let v = f.verdict;
-            z = frame::verdicts::judged(z, weight, i, j, v);
-            i += 1;
-        }
+    let mut start = 0;
+    // Not `while let`: behind the last course nothing is gathered anew.
+    while start < s.courses {
+        let Some(f) = next_verdict(s, rising, j, start) else {
+            return;
+        };
+        s.judge(f.course, j, f.verdict);
+        start = f.course + 1;
     }
-    z
 }

@@ -9,22 +9,24 @@ mod screen;
 mod terms;
 mod verdicts;
 
-ghost use Rattle.std.specs.Prelude.{◌≡◌};
-ghost use Rattle.year.specs.Sound.{Sound};
+ghost use Rattle.std.specs.Prelude.{◌≡◌, ◌≤◌};
 ghost use Rattle.rules.specs.Step.{over_terms};
 ghost use Rattle.rules.specs.Spares.{up};
 ghost use Rattle.rules.specs.Neighbours.{rule12};
-ghost use Rattle.frame.specs.State.{held, year_in, step_in};
+ghost use Rattle.frame.specs.State.{year_in, step_in, step_of};
+ghost use Rattle.neighbours.specs.Lightest.{Summed};
 
 use frame::State;
-use rules::Verdict;
+use rules::{Rule, Verdict};
 use year::{Credits, Year};
 
-// A range of credits: what a term still needs, and what it still takes.
+// A range of credits, which a term can have: what it still needs, and what it still takes.
 #[derive(Clone, Copy)]
 pub struct Range {
     pub least: Credits,
     pub most: Credits,
+    pub ghost ordered: { least.0 ≤ most.0 },
+    pub ghost small: { most.0 ≤ 64000 },
 }
 
 // The open courses of a term from lightest to heaviest: how many there are, what the lightest of them weigh, and at which
@@ -34,41 +36,30 @@ pub struct Opened {
     pub count: usize,
     pub upto: [u32; 65],
     pub place: [u8; Year::COURSES],
+    pub ghost summed: { Summed count upto },
 }
 
-// A course and the verdict on it; the number of courses where none has one.
+// A course and the verdict on it.
 #[derive(Clone, Copy)]
 pub struct First {
     pub course: usize,
     pub verdict: Verdict,
 }
 
-// What the rule says of a whole term: nothing, as no course has a verdict; its courses have theirs; or there is no plan.
-#[derive(Clone, Copy)]
+// What the rule says of a whole term that has a plan: nothing, as no course has a verdict; or its courses may have theirs.
+#[derive(Clone, Copy, PartialEq, Eq)]
 pub enum Says {
     Nothing,
     Courses,
-    NoPlan,
 }
 
-// Rule 12 over the terms of the year, up to one where it finds no plan. Where a rule before it found none, the loop ends at once.
-// `rising` is its courses from lightest to heaviest.
-pub fn rule_12(s: State, weight: &[u32], rising: &[u8]) -> State
-    requires sound { Sound (year_in weight.now s) }
-    requires rising_value { rising.now ≡ up (year_in weight.now s) }
-    ensures { result ≡ held (over_terms rule12 (step_in weight.now s)) }
+// Rule 12 over the terms of the year, up to one where it finds no plan. `rising` is its courses from lightest to heaviest.
+pub fn rule_12(s: &mut State, rising: &[u8]) -> Result<(), Rule>
+    requires from_lightest { rising.now ≡ up (year_in s.old) }
+    ensures { step_of s.new result ≡ over_terms rule12 (step_in s.old) }
 {
-    let mut z = s;
-    let mut j = 0;
-    while (j < s.terms) & (z.rule == 0) {
-        let list = z.list;
-        let t = z.term[j];
-        let u = z.sums[j];
-        let whole = terms::says(t, u, weight, &list, rising, s.courses, j);
-        if let Says::Nothing = whole {} else {
-            z = terms::term_judged(z, weight, rising, j, whole);
-        }
-        j += 1;
+    for j in 0..s.terms {
+        terms::term_judged(s, rising, j)?;
     }
-    z
+    Ok(())
 }

@@ -1,18 +1,17 @@
 -- The thresholds that occur, over sizes in arrays: one after another in the order of the courses, with what is still to come.
 use Prim.Native.Nat.{ℕ, zero, suc, ◌+◌, ◌/◌, ◌≤◌, ◌<◌}
-use mathlib.Core.Bool.{Bool, true, false, not, ◌&&◌, ◌||◌, and-false, true≢false}
+use mathlib.Core.Bool.{Bool, true, false, not, ◌&&◌, ◌||◌, and-false, or-false, true≢false}
 use mathlib.Core.List.{List}
-use mathlib.Core.Logic.{◌⊎◌, inl, inr}
-use mathlib.Core.Path.{◌≡◌, refl, sym, ap, ◌∙◌, subst, fun_ext}
+use mathlib.Core.Path.{◌≡◌, refl, sym, ap, ap₂, ◌∙◌, subst, fun_ext}
 use native.Mathlib.Decide.{dec_lt, ℕ_discrete}
 use native.Mathlib.Omega.{arith}
 use lib.Dec.{leb, ltb}
 use lib.ListN.{length, get_or}
-use borrow.Author.Tests.{lt-ltb, le-ltb, ltb-true, le-leb, lt-leb, leb-true}
+use borrow.Author.Tests.{lt-ltb, le-ltb, le-leb, lt-leb}
 use Rattle.theory.specs.Sum.{pick, sum}
 use Rattle.theory.proofs.SumLaws.{sum_more, sum_cong, sum_behind, sum_front}
 use Rattle.theory.specs.Tests.{any}
-use Rattle.theory.proofs.TestLaws.{and_true, and_of, any_none, any_false, any_of}
+use Rattle.theory.proofs.TestLaws.{and_of, any_none, any_false, any_of, or_left, or_right}
 use Rattle.theory.specs.Packing.{share}
 use Rattle.theory.proofs.PackingLaws.{share_small, share_mid}
 use Rattle.theory.proofs.ThresholdLaws.{thresholds_that_occur}
@@ -35,15 +34,6 @@ module _ (a b : List ℕ) (c limit : ℕ) where
 
   pub not_tried : (t : ℕ) → c / 2 < t → tried a b c limit t ≡ false
   not_tried t l = ap (λ e. e && over a b c limit t) (lt-leb t (c / 2) l)
-
--- the test whether a size is to be tried
-pub new_size : (last t h : ℕ) → ltb last t && leb t h ≡ true → (last < t) × (t ≤ h)
-new_size last t h e =
-    let a = and_true (ltb last t) (leb t h) e in
-    (ltb-true last t a.0, leb-true t h a.1)
-
-pub old_size : (last t h : ℕ) → ltb last t && leb t h ≡ false → last < t → t ≤ h → ⊥
-old_size last t h e l m = true≢false (sym (and_of (ltb last t) (leb t h) (lt-ltb last t l) (le-leb t h m)) ∙ e)
 
 -- ---- all thresholds that occur
 
@@ -70,6 +60,22 @@ module _ (a b : List ℕ) (c limit : ℕ) where
       (fun_ext over_open)
       (thresholds_that_occur c (length a) (length b) (λ i. get_or a i 0) (λ k. get_or b k 0) (λ i. ltb 0 (get_or a i 0)) limit (c / 2))
 
+  -- half of c is enough, or a term's size; where neither is, the courses' sizes decide
+  abbrev courses : Bool
+  courses = any (length a) (course_exceeds a b c limit)
+
+  abbrev terms : Bool
+  terms = any (length b) (term_exceeds a b c limit)
+
+  pub half_exceeds : over a b c limit (c / 2) ≡ true → any (c / 2 + 1) (over a b c limit) ≡ true
+  half_exceeds h = some_threshold ∙ or_right courses (terms || over a b c limit (c / 2)) (or_right terms (over a b c limit (c / 2)) h)
+
+  pub terms_exceed : terms ≡ true → any (c / 2 + 1) (over a b c limit) ≡ true
+  terms_exceed t = some_threshold ∙ or_right courses (terms || over a b c limit (c / 2)) (or_left terms (over a b c limit (c / 2)) t)
+
+  pub courses_decide : over a b c limit (c / 2) ≡ false → terms ≡ false → any (c / 2 + 1) (over a b c limit) ≡ courses
+  courses_decide h t = some_threshold ∙ ap (λ x. courses || x) (ap₂ ◌||◌ t h) ∙ or-false courses
+
 -- ---- what the sizes from t on count for
 
 -- where no size is above c - t, each counts itself or nothing
@@ -94,7 +100,7 @@ module _ (a b o : List ℕ) (c limit : ℕ) where
     pub to_come : rest + sum r size_in ≡ sum (length a) size_in
     pub none : any r (λ q. course_exceeds a b c limit (get_or o q 0)) ≡ false
     pub below : (q : ℕ) → q < r → size_in q ≤ c / 2 → size_in q ≤ last
-    pub above : (q : ℕ) → r ≤ q → q < length a → (size_in q ≡ 0) ⊎ (last ≤ size_in q)
+    pub above : (q : ℕ) → r ≤ q → q < length a → 0 < size_in q → last ≤ size_in q
     pub last_none : ltb 0 last && tried a b c limit last ≡ false
 
   module _ (u : Rising a o) where
@@ -105,7 +111,7 @@ module _ (a b o : List ℕ) (c limit : ℕ) where
       to_come = omega (arith, u.each (size_at a));
       none = refl;
       below = λ q l h. omega arith;
-      above = λ q l h. inr (omega arith);
+      above = λ q l h p. omega arith;
       last_none = refl;
     }
 
@@ -119,9 +125,14 @@ module _ (a b o : List ℕ) (c limit : ℕ) where
     all_passed last rest p = any_none (length a) (course_exceeds a b c limit) each
       where
         each : (i : ℕ) → i < length a → course_exceeds a b c limit i ≡ false
-        each i l =
-            let r = u.onto i l in
-            ap (course_exceeds a b c limit) (sym r.2) ∙ any_false (length a) (λ q. course_exceeds a b c limit (get_or o q 0)) p.none r.0 r.1
+        each i l = go (course_exceeds a b c limit i) refl
+          where
+            go : (e : Bool) → course_exceeds a b c limit i ≡ e → e ≡ false
+            go true is =
+                absurd
+                (u.onto i l
+                (λ r m e. true≢false (sym is ∙ ap (course_exceeds a b c limit) (sym e) ∙ any_false (length a) (λ q. course_exceeds a b c limit (get_or o q 0)) p.none r m)))
+            go false is = refl
 
     module _ (r last rest : ℕ) (p : Passed r last rest) (l : r < length a) where
       -- what is still to come has the course at hand in it
@@ -140,18 +151,17 @@ module _ (a b o : List ℕ) (c limit : ℕ) where
           )
         where
           gone : (q : ℕ) → q < r → from_at a (size_in r) (get_or o q 0) ≡ 0
-          gone q h = ap (λ e. pick (not e) (size_in q)) (lt-ltb (size_in q) (size_in r) (less (u.rises q r (omega arith) l)))
+          gone q h = ap (λ e. pick (not e) (size_in q)) (lt-ltb (size_in q) (size_in r) less)
             where
-              less : (size_in r ≡ 0) ⊎ (size_in q ≤ size_in r) → size_in q < size_in r
-              less (inl e) = absurd (omega arith)
-              less (inr e) = omega (arith, p.below q h (omega arith))
+              less : size_in q < size_in r
+              less = let e = u.rises q r (omega arith) l (omega arith) in omega (arith, p.below q h (omega arith))
 
           coming : (q : ℕ) → r ≤ q → q < length a → from_at a (size_in r) (get_or o q 0) ≡ size_in q
-          coming q h m = go (u.rises r q h m)
+          coming q h m = go (ℕ_discrete (size_in q) 0)
             where
-              go : (size_in q ≡ 0) ⊎ (size_in r ≤ size_in q) → pick (not (ltb (size_in q) (size_in r))) (size_in q) ≡ size_in q
-              go (inl e) = ap (λ x. pick (not (ltb x (size_in r))) x) e ∙ ap (λ t. pick (not t) 0) (lt-ltb 0 (size_in r) (omega arith)) ∙ sym e
-              go (inr e) = ap (λ t. pick (not t) (size_in q)) (le-ltb (size_in q) (size_in r) e)
+              go : Dec (size_in q ≡ 0) → pick (not (ltb (size_in q) (size_in r))) (size_in q) ≡ size_in q
+              go (yes e) = ap (λ x. pick (not (ltb x (size_in r))) x) e ∙ ap (λ t. pick (not t) 0) (lt-ltb 0 (size_in r) (omega arith)) ∙ sym e
+              go (no d) = ap (λ t. pick (not t) (size_in q)) (le-ltb (size_in q) (size_in r) (u.rises r q h m (omega (arith, d))))
 
       -- a size that was not tried yet does not exceed
       pub one_tried : last < size_in r → over a b c limit (size_in r) ≡ false → (rest' : ℕ) → rest' + size_in r ≡ rest → Passed (r + 1) (size_in r) rest'
@@ -176,20 +186,20 @@ module _ (a b o : List ℕ) (c limit : ℕ) where
       one_passed old rest' is = record {
         few = omega arith;
         to_come = omega (arith, p.to_come, sum_more r size_in);
-        none = none_more r (λ q. course_exceeds a b c limit (get_or o q 0)) p.none (fails (dec_lt (c / 2) (size_in r)) (p.above r (omega arith) l));
+        none = none_more r (λ q. course_exceeds a b c limit (get_or o q 0)) p.none (fails (dec_lt (c / 2) (size_in r)) (ℕ_discrete (size_in r) 0));
         below = λ q h half. go q (ℕ_discrete q r) h half;
         above = λ q h m. p.above q (omega arith) m;
         last_none = p.last_none;
       }
         where
-          fails : Dec (c / 2 < size_in r) → (size_in r ≡ 0) ⊎ (last ≤ size_in r) → course_exceeds a b c limit (get_or o r 0) ≡ false
+          fails : Dec (c / 2 < size_in r) → Dec (size_in r ≡ 0) → course_exceeds a b c limit (get_or o r 0) ≡ false
           fails (yes k) q = ap (λ t. ltb 0 (size_in r) && t) (not_tried a b c limit (size_in r) k) ∙ and-false (ltb 0 (size_in r))
-          fails (no k) (inl e) = ap (λ x. ltb 0 x && tried a b c limit x) e
-          fails (no k) (inr e) = ap (λ x. ltb 0 x && tried a b c limit x) (same (dec_lt last (size_in r))) ∙ p.last_none
+          fails (no k) (yes e) = ap (λ x. ltb 0 x && tried a b c limit x) e
+          fails (no k) (no z) = ap (λ x. ltb 0 x && tried a b c limit x) (same (dec_lt last (size_in r))) ∙ p.last_none
             where
               same : Dec (last < size_in r) → size_in r ≡ last
               same (yes d) = absurd (old d (omega (arith, k)))
-              same (no d) = omega (arith, d, e)
+              same (no d) = omega (arith, d, p.above r (omega arith) l (omega (arith, z)))
 
           go : (q : ℕ) → Dec (q ≡ r) → q < r + 1 → size_in q ≤ c / 2 → size_in q ≤ last
           go q (yes d) h half = up_to (dec_lt last (size_in r))

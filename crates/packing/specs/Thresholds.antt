@@ -1,5 +1,5 @@
 -- The thresholds that occur, over sizes in arrays: what is tried, and what the order of the courses is good for.
-use Rattle.std.specs.Prelude.{ℕ, ◌/◌, ◌≤◌, ◌<◌, Bool, not, ◌&&◌, List, ◌⊎◌, ◌≡◌, leb, ltb, length, get_or}
+use Rattle.std.specs.Prelude.{ℕ, ◌/◌, ◌≤◌, ◌<◌, Bool, not, ◌&&◌, List, ◌≡◌, leb, ltb, length, get_or}
 use Rattle.theory.specs.Sum.{pick, sum}
 use Rattle.packing.specs.Sizes.{over}
 
@@ -7,9 +7,9 @@ use Rattle.packing.specs.Sizes.{over}
 pub record Rising (x o : List ℕ) : Type 0 where
   pub long : length x ≤ length o
   pub within : (r : ℕ) → r < length x → get_or o r 0 < length x
-  pub onto : (i : ℕ) → i < length x → (r : ℕ) × (r < length x) × (get_or o r 0 ≡ i)
+  pub onto : (i : ℕ) → i < length x → ((r : ℕ) → r < length x → get_or o r 0 ≡ i → ⊥) → ⊥
   pub each : (f : ℕ → ℕ) → sum (length x) (λ r. f (get_or o r 0)) ≡ sum (length x) f
-  pub rises : (r q : ℕ) → r ≤ q → q < length x → (get_or x (get_or o q 0) 0 ≡ 0) ⊎ (get_or x (get_or o r 0) 0 ≤ get_or x (get_or o q 0) 0)
+  pub rises : (r q : ℕ) → r ≤ q → q < length x → 0 < get_or x (get_or o q 0) 0 → get_or x (get_or o r 0) 0 ≤ get_or x (get_or o q 0) 0
 
 -- sizes a of the courses, none above the heaviest, in a rising order o, and sizes b of the terms, in a room of c
 pub record Fitting (a o b : List ℕ) (c heaviest : ℕ) : Type 0 where

@@ -4,6 +4,7 @@ use Rattle.year.proofs.Year.by_hand.Met as by-hand-call
 use Rattle.year.proofs.Year.summed.Met as summed-call
 use Rattle.year.proofs.Year.course.Met as course-call
 use Rattle.year.proofs.sound.is_sound.Met as is-sound-call
+use Rattle.year.proofs.Year.is_sound.Met as year-is-sound-call
 use Rattle.year.proofs.Year.place.Met as place-call
 use Rattle.year.proofs.Year.bar.Met as bar-call
 use Rattle.year.proofs.Year.raise_low_credits.Met as raise-low-credits-call
@@ -15,6 +16,7 @@ use Rattle.records.proofs.read.Met as read-call
 use Rattle.records.proofs.fault_number.Met as fault-number-call
 use Rattle.records.proofs.write.Met as write-call
 use Rattle.hours.proofs.join.Met as join-call
+use Rattle.rules.proofs.Rule.number.Met as rule-number-call
 use Rattle.filter.proofs.filter.Met as filter-call
 use Rattle.boundary.proofs.turfsteeple_read.Met as turfsteeple-read-call
 use Rattle.boundary.proofs.turfsteeple_filter.Met as turfsteeple-filter-call
@@ -32,6 +34,7 @@ each_answers M = record {
   summed = summed-call.met;
   course = course-call.met;
   is_sound = is-sound-call.met;
+  year_is_sound = year-is-sound-call.met;
   place = place-call.met;
   bar = bar-call.met;
   raise_low_credits = raise-low-credits-call.met;
@@ -43,6 +46,7 @@ each_answers M = record {
   fault_number = fault-number-call.met;
   write = write-call.met;
   join = join-call.met;
+  rule_number = rule-number-call.met;
   filter = filter-call.met;
   turfsteeple_read = turfsteeple-read-call.met;
   turfsteeple_filter = turfsteeple-filter-call.met;

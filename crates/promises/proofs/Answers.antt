@@ -7,6 +7,7 @@ use native.Mathlib.Omega.{arith}
 use lib.Dec.{leb}
 use lib.ListN.{length}
 use borrow.Author.Tests.{leb-true, leb-false}
+use Rattle.std.specs.Prelude.{Result, Ok, Err}
 use Rattle.theory.specs.Choice.{choose}
 use Rattle.year.specs.Sound.{Sound, is_sound}
 use Rattle.year.specs.Sums.{all_placed}
@@ -14,8 +15,9 @@ use Rattle.year.specs.declared.Year.{Year}
 use Rattle.year.proofs.SoundLaws.{sound_of, sound_to}
 use Rattle.records.specs.Numbers.{writing_number}
 use Rattle.records.specs.Writing.{records_of, write_answer}
-use Rattle.records.specs.declared.Writing.{Writing}
-use Rattle.records.specs.declared.Writing.TheVariants as writing
+use Rattle.records.specs.declared.WritingRefusal.{WritingRefusal}
+use Rattle.records.specs.declared.WritingRefusal.TheVariants.{Unsound, Short}
+use Rattle.rules.proofs.RuleNumberLaws.{number_within}
 use Rattle.filter.specs.Filter.{filter_of}
 use Rattle.filter.specs.Numbers.{filter_number, filter_rule, filter_rounds}
 use Rattle.filter.specs.declared.Answer.{Answer}
@@ -36,17 +38,17 @@ no-sound y e s = true≢false (sym (sound_to y s) ∙ e)
 -- ---- writing
 
 -- how a writing into a buffer of `room` bytes ends
-data WriteEnds (y : Year) (room : ℕ) : Writing → Type 0 where
-  unsound : (Sound y → ⊥) → WriteEnds y room writing.Unsound
-  short : Sound y → room < length (records_of y) → WriteEnds y room writing.Short
-  done : Sound y → length (records_of y) ≤ room → WriteEnds y room writing.Done
+data WriteEnds (y : Year) (room : ℕ) : Result (Unit {0}) WritingRefusal → Type 0 where
+  unsound : (Sound y → ⊥) → WriteEnds y room (Err Unsound)
+  short : Sound y → room < length (records_of y) → WriteEnds y room (Err Short)
+  done : Sound y → length (records_of y) ≤ room → WriteEnds y room (Ok tt)
 
 write-ends : (y : Year) (room : ℕ) → WriteEnds y room (write_answer y room)
 unfolding write_answer
 write-ends y room = go (is_sound y) refl (leb (length (records_of y)) room) refl
   where
     go : (a : Bool) → is_sound y ≡ a → (b : Bool) → leb (length (records_of y)) room ≡ b
-        → WriteEnds y room (choose a (choose b writing.Done writing.Short) writing.Unsound)
+        → WriteEnds y room (choose a (choose b (Ok tt) (Err Short)) (Err Unsound))
     go false p b q = unsound (no-sound y p)
     go true p false q = short (sound_of y p) (leb-false _ _ q)
     go true p true q = done (sound_of y p) (leb-true _ _ q)
@@ -58,17 +60,17 @@ writing_due = record {
   done = λ y room. none (write-ends y room);
 }
   where
-    eight : {y : Year} {room : ℕ} {w : Writing} → WriteEnds y room w → (writing_number w ≡ 8) ↔ (Sound y → ⊥)
+    eight : {y : Year} {room : ℕ} {w : Result (Unit {0}) WritingRefusal} → WriteEnds y room w → (writing_number w ≡ 8) ↔ (Sound y → ⊥)
     eight (unsound d) = (λ q. d, λ z. refl)
     eight (short s h) = (λ q. absurd (omega arith), λ z. absurd (z s))
     eight (done s h) = (λ q. absurd (omega arith), λ z. absurd (z s))
 
-    nine : {y : Year} {room : ℕ} {w : Writing} → WriteEnds y room w → (writing_number w ≡ 9) ↔ (Sound y × (room < length (records_of y)))
+    nine : {y : Year} {room : ℕ} {w : Result (Unit {0}) WritingRefusal} → WriteEnds y room w → (writing_number w ≡ 9) ↔ (Sound y × (room < length (records_of y)))
     nine (unsound d) = (λ q. absurd (omega arith), λ z. absurd (d z.0))
     nine (short s h) = (λ q. (s, h), λ z. refl)
     nine (done s h) = (λ q. absurd (omega arith), λ z. absurd (omega (arith, z.1)))
 
-    none : {y : Year} {room : ℕ} {w : Writing} → WriteEnds y room w → (writing_number w ≡ 0) ↔ (Sound y × (length (records_of y) ≤ room))
+    none : {y : Year} {room : ℕ} {w : Result (Unit {0}) WritingRefusal} → WriteEnds y room w → (writing_number w ≡ 0) ↔ (Sound y × (length (records_of y) ≤ room))
     none (unsound d) = (λ q. absurd (omega arith), λ z. absurd (d z.0))
     none (short s h) = (λ q. absurd (omega arith), λ z. absurd (omega (arith, z.1)))
     none (done s h) = (λ q. (s, h), λ z. refl)
@@ -85,9 +87,9 @@ rest-said : (b : Bool) (n : ℕ) → Said (choose b (Settled (suc n)) (Open (suc
 rest-said true n = record { some_round = omega arith; named = λ q. absurd (omega arith); not_unsound = λ q. omega arith }
 rest-said false n = record { some_round = omega arith; named = λ q. absurd (omega arith); not_unsound = λ q. omega arith }
 
-end-said : (y z : Year) (n : ℕ) (r : Filtered) → Ends y n z r → Said r.answer
-end-said y z n r (finds_no_plan e) = record { some_round = omega arith; named = λ q. omega (arith, e); not_unsound = λ q. omega arith }
-end-said y z n r (comes_to_rest e g) = rest-said (all_placed z) n
+end-said : (y z : Year) (n : ℕ) (f : Filtered) → Ends y n z f → Said f.answer
+end-said y z n f (finds_no_plan r e) = record { some_round = omega arith; named = λ q. (number_within r).0; not_unsound = λ q. omega arith }
+end-said y z n f (comes_to_rest e g) = rest-said (all_placed z) n
 
 sound-said : (y : Year) → Sound y → Said (filter_of y).answer
 sound-said y s = let f = filter_runs y s in end-said y f.reached f.rounds_before_last (filter_of y) f.ends

@@ -1,6 +1,7 @@
 -- The three demands, each gathered from what the other files prove.
 use mathlib.Core.Path.{sym, ap, subst, ◌∙◌}
-use Rattle.records.specs.Reading.{read_list}
+use Rattle.records.specs.Reading.{read_list, year_read}
+use Rattle.records.proofs.GatherLaws.{is_done}
 use Rattle.records.proofs.ListLaws.{read_sound}
 use Rattle.records.proofs.WriteLaws.{records_length, records_most}
 use Rattle.records.proofs.ReadWrite.{read_write}
@@ -21,7 +22,7 @@ use Rattle.promises.proofs.Answers.{sound_told, writing_due, filtering_due}
 use Rattle.promises.proofs.Listing.{listing_due}
 use Rattle.promises.proofs.Codes.{codes_due}
 use Rattle.promises.proofs.Boundary.{buffer_left}
-use Rattle.promises.proofs.RoundTrip.{read_done, read_refused, wrote}
+use Rattle.promises.proofs.RoundTrip.{read_refused, wrote}
 use Rattle.promises.proofs.Sequence.{start_sound, sequence_narrower, sequence_plans, sequence_no_plan, sequence_settled}
 
 -- ---- 1
@@ -59,9 +60,9 @@ demand_2 = record {
   sixteen_a_record = records_length;
   records_read = write_read;
   records_fit = records_most;
-  read_is_sound = λ s e. read_sound s (read_list s).year (read_done s e);
+  read_is_sound = λ s e. read_sound s (year_read (read_list s)) (is_done (read_list s) e);
   joined_is_sound = joined_sound;
-  read_then_write = λ s bytes e. read_write s bytes (read_list s).year (read_done s e);
+  read_then_write = λ s bytes e. read_write s bytes (year_read (read_list s)) (is_done (read_list s) e);
 }
 
 -- ---- 3

@@ -6,6 +6,7 @@ use mathlib.Core.Path.{◌≡◌, refl, sym, ap, fun_ext, ◌∙◌}
 use native.Mathlib.Omega.{arith}
 use lib.Dec.{ltb}
 use borrow.Author.Tests.{lt-ltb}
+use Rattle.std.specs.Prelude.{Result, Ok, Err}
 use Rattle.theory.specs.Pairs.{square}
 use Rattle.theory.specs.Tests.{all}
 use Rattle.theory.proofs.TestLaws.{all_of, and_true, and_of}
@@ -16,8 +17,8 @@ use Rattle.year.specs.Plans.{Placing, credits_in, Plan, PlacedBy, the_placing, s
 use Rattle.year.specs.Sound.{Sound, is_sound}
 use Rattle.year.specs.declared.Year.{Year}
 use Rattle.year.specs.Numbers.{imbalance_number, imbalance_value}
-use Rattle.year.specs.declared.Measured.{Measured}
-use Rattle.year.specs.declared.Measured.TheVariants.{Imbalance, Unsound, Unsettled}
+use Rattle.year.specs.declared.ImbalanceRefusal.{ImbalanceRefusal}
+use Rattle.year.specs.declared.ImbalanceRefusal.TheVariants.{Unsound, Unsettled}
 use Rattle.year.proofs.SoundLaws.{sound_of, sound_to}
 use Rattle.year.proofs.OnePlacing.{credits_fixed, count_fixed, placed_listed, placed_within, placed_only, placed_by, all_placed_lem, plan_total}
 use Rattle.year.proofs.ImbalanceLaws.{imbalance_unsound, imbalance_open, imbalance_unfit, imbalance_given, imbalance_whole, imbalance_pairs, imbalance_zero, imbalance_small}
@@ -42,7 +43,7 @@ module _ (y : Year) (p : Placing) (s : Sound y) (h : PlacedBy y p) where
     λ q. rw fits_same (and_true (all y.courses (stands y p)) (all y.terms (fits_in y p)) (test_of_plan y p q)).1,
   )
 
-  imbalance_is : Plan y p → imbalance_of y ≡ Imbalance (imbalance_in y p)
+  imbalance_is : Plan y p → imbalance_of y ≡ Ok (imbalance_in y p)
   imbalance_is q =
       let e : fixed_credits y ≡ credits_in y p = fun_ext (credits_fixed y p h) in
       rw e at (imbalance_given y s (all_placed_lem y p s h) (one_plan.1 q))
@@ -50,9 +51,9 @@ module _ (y : Year) (p : Placing) (s : Sound y) (h : PlacedBy y p) where
 -- ---- the three cases
 
 data Case (y : Year) : Type 0 where
-  unsound : (Sound y → ⊥) → imbalance_of y ≡ Unsound → Case y
-  unsettled : Sound y → (all_placed y ≡ false) ⊎ (Plan y (the_placing y) → ⊥) → imbalance_of y ≡ Unsettled → Case y
-  settled : Sound y → all_placed y ≡ true → Plan y (the_placing y) → imbalance_of y ≡ Imbalance (imbalance_in y (the_placing y)) → Case y
+  unsound : (Sound y → ⊥) → imbalance_of y ≡ Err Unsound → Case y
+  unsettled : Sound y → (all_placed y ≡ false) ⊎ (Plan y (the_placing y) → ⊥) → imbalance_of y ≡ Err Unsettled → Case y
+  settled : Sound y → all_placed y ≡ true → Plan y (the_placing y) → imbalance_of y ≡ Ok (imbalance_in y (the_placing y)) → Case y
 
 case_of : (y : Year) → Case y
 case_of y = go (is_sound y) refl (all_placed y) refl (all y.terms (fits_at y)) refl
@@ -67,7 +68,7 @@ case_of y = go (is_sound y) refl (all_placed y) refl (all y.terms (fits_at y)) r
         let none : Plan y (the_placing y) → ⊥ = λ z. true≢false (sym ((one_plan y (the_placing y) (sound_of y p) (placed_by y q)).1 z) ∙ r) in
         unsettled (sound_of y p) (inr none) (imbalance_unfit y (sound_of y p) q r)
 
-number_is : (y : Year) (m : Measured) → imbalance_of y ≡ m → (n : ℕ) → imbalance_number (imbalance_of y) ≡ n → imbalance_number m ≡ n
+number_is : (y : Year) (m : Result ℕ ImbalanceRefusal) → imbalance_of y ≡ m → (n : ℕ) → imbalance_number (imbalance_of y) ≡ n → imbalance_number m ≡ n
 number_is y m e n q = sym (ap imbalance_number e) ∙ q
 
 -- not both a plan, and no plan or an open course
@@ -120,10 +121,9 @@ imbalance_due = record {
 most : (y : Year) → imbalance_value (imbalance_of y) ≤ 15 * square 64000
 most y = go (imbalance_of y) refl
   where
-    go : (m : Measured) → imbalance_of y ≡ m → imbalance_value m ≤ 15 * square 64000
-    go (Imbalance v) e = imbalance_small y v e
-    go Unsound e = omega arith
-    go Unsettled e = omega arith
+    go : (m : Result ℕ ImbalanceRefusal) → imbalance_of y ≡ m → imbalance_value m ≤ 15 * square 64000
+    go (Ok v) e = imbalance_small y v e
+    go (Err r) e = omega arith
 
 pub imbalance_means : ImbalanceMeans
 imbalance_means = record {

@@ -5,6 +5,7 @@ use mathlib.Core.Path.{◌≡◌, refl, sym, ap, ap₂, ◌∙◌}
 use native.Mathlib.Omega.{arith}
 use lib.ListN.{length, take, get_or}
 use lib.Seq.{take-append_seam}
+use Rattle.std.specs.Prelude.{Result, Ok, Err}
 use Rattle.year.specs.Doors.{empty_year}
 use Rattle.year.specs.Year.{course_of, course_at, zero_term}
 use Rattle.year.specs.Sound.{Sound}
@@ -12,45 +13,32 @@ use Rattle.year.specs.declared.Course.{Course}
 use Rattle.year.specs.declared.Year.{Year}
 use Rattle.records.specs.Bytes.{AllBytes, word_at}
 use Rattle.records.specs.Numbers.{reading_number, reading_place}
-use Rattle.records.specs.Reading.{read_list}
+use Rattle.records.specs.Reading.{read_list, year_read}
 use Rattle.records.specs.Writing.{term_bytes, term_block, course_block, joined, records_of}
-use Rattle.records.specs.declared.Reading.{Reading}
-use Rattle.records.specs.declared.Reading.TheVariants as reading
-use Rattle.records.specs.declared.Received.{Received}
+use Rattle.records.specs.declared.Refusal.{Refusal}
 use Rattle.records.proofs.ReadWrite.{read_write}
 use Rattle.records.proofs.WriteRead.{write_read}
 use Rattle.hours.specs.Numbers.{edition_number, joining_number, joining_list, joining_place}
 use Rattle.hours.specs.Entries.{weight_by}
-use Rattle.hours.specs.Joining.{term_list, join_of}
+use Rattle.hours.specs.Joining.{term_list, join_of, year_joined}
 use Rattle.hours.specs.declared.Edition.{Edition}
 use Rattle.hours.specs.declared.Edition.TheVariants.{First, Second}
-use Rattle.hours.specs.declared.Joined.{Joined}
-use Rattle.hours.specs.declared.Joining.{Joining}
-use Rattle.hours.specs.declared.Joining.TheVariants.{Done, InTerms, InHours}
+use Rattle.hours.specs.declared.JoiningRefusal.{JoiningRefusal}
 use Rattle.hours.proofs.EntryLaws.{HoursHeld}
-use Rattle.hours.proofs.JoinLaws.{Joint, joint, unjoined, terms_done}
+use Rattle.hours.proofs.JoinLaws.{is_joined, is_unjoined, Joint, joint, terms_done}
 use Rattle.hours.proofs.ReadLaws.{terms_as_read, terms_read, in_terms, joined_with_none}
 use Rattle.promises.specs.Refusals.{byte_of}
 use Rattle.promises.specs.Joining.{JoinedYear, NoCourse, AsReading, HoursMean}
 use Rattle.promises.proofs.Refusals.{letter_of}
-use Rattle.promises.proofs.RoundTrip.{fault_has_number}
 
 -- ---- done, and refused
 
--- a joining numbered 0 is done
-pub join_done : (t h : List ℕ) → joining_number (join_of t h).answer ≡ 0 → (join_of t h).answer ≡ Done
-join_done t h = go (join_of t h).answer
-  where
-    go : (a : Joining) → joining_number a ≡ 0 → a ≡ Done
-    go Done e = refl
-    go (InTerms f k) e = absurd (fault_has_number f e)
-    go (InHours f k) e = absurd (fault_has_number f e)
+pub joined_sound : (t h : List ℕ) → joining_number (join_of t h) ≡ 0 → Sound (year_joined (join_of t h))
+joined_sound t h e = (joint t h (year_joined (join_of t h)) (is_joined (join_of t h) e)).sound
 
-pub joined_sound : (t h : List ℕ) → joining_number (join_of t h).answer ≡ 0 → Sound (join_of t h).year
-joined_sound t h e = (joint t h (join_done t h e)).sound
-
-pub join_refused : (t h : List ℕ) → (joining_number (join_of t h).answer ≡ 0 → ⊥) → (join_of t h).year ≡ empty_year
-join_refused t h n = unjoined t h (λ e. n (ap joining_number e))
+pub join_refused : (t h : List ℕ) → (joining_number (join_of t h) ≡ 0 → ⊥)
+    → (year_joined (join_of t h) ≡ empty_year) × (r : JoiningRefusal) × (join_of t h ≡ Err r)
+join_refused t h n = let r = is_unjoined (join_of t h) n in (ap year_joined r.1, r.0, r.1)
 
 -- ---- the year
 
@@ -71,18 +59,18 @@ course_named h i m c e r q = go r.edition e (sym r.named ∙ q) (sym r.held.hold
 records_are : (t h : List ℕ) (y : Year) → Joint t h y → AllBytes t → records_of y ≡ t ++ joined (course_block y) y.courses
 unfolding records_of joined
 records_are t h y j bytes =
-    let z = (term_list t).year in
-    let none : z.courses ≡ 0 = (terms_done t j.front_done).0.no_course in
+    let z = j.front in
+    let none : z.courses ≡ 0 = (terms_done t z j.front_done).0.no_course in
     let front : joined (term_block z) z.terms ≡ t =
-    sym (append-nil (joined (term_block z) z.terms)) ∙ rw none at (read_write t bytes z (terms_read t j.front_done)) in
+    sym (append-nil (joined (term_block z) z.terms)) ∙ rw none at (read_write t bytes z (terms_read t z j.front_done)) in
     let same : joined (term_block y) y.terms ≡ joined (term_block z) z.terms =
     ap₂ (λ (l : List _) (n : ℕ). joined (λ i. term_bytes i (get_or l i zero_term)) n) j.front_same.1 j.front_same.0 in
     ap (λ (l : List ℕ). l ++ joined (course_block y) y.courses) (same ∙ front)
 
-joined_year : (t h : List ℕ) → joining_number (join_of t h).answer ≡ 0 → JoinedYear t h (join_of t h).year
+joined_year : (t h : List ℕ) → joining_number (join_of t h) ≡ 0 → JoinedYear t h (year_joined (join_of t h))
 joined_year t h e =
-    let y = (join_of t h).year in
-    let j = joint t h (join_done t h e) in record {
+    let y = year_joined (join_of t h) in
+    let j = joint t h y (is_joined (join_of t h) e) in record {
       sound = j.sound;
       as_many_terms = omega (arith, j.term_bytes_lem);
       as_many_courses = omega (arith, j.course_bytes_lem);
@@ -97,25 +85,29 @@ joined_year t h e =
 as_reading : (s : List ℕ) → NoCourse s → AsReading s
 as_reading s none =
     let is : term_list s ≡ read_list s = terms_as_read s (λ k l c. none k l (letter_of s k ∙ c)) in
-    let j : join_of s [] ≡ record { answer = in_terms (read_list s).answer; year = (read_list s).year } =
-    joined_with_none s ∙ ap (λ (r : Received). record { answer = in_terms r.answer; year = r.year }) is in record {
-      same_number = ap (λ (r : Joined). joining_number r.answer) j ∙ number (read_list s).answer;
-      same_place = ap (λ (r : Joined). joining_place r.answer) j ∙ place (read_list s).answer;
-      same_year = ap (λ (r : Joined). r.year) j;
-      in_terms = λ n. ap (λ (r : Joined). joining_list r.answer) j ∙ named (read_list s).answer (λ e. n (ap (λ (r : Joined). joining_number r.answer) j ∙ e));
+    let j : join_of s [] ≡ in_terms (read_list s) = joined_with_none s ∙ ap in_terms is in
+    record {
+      same_number = ap joining_number j ∙ number (read_list s);
+      same_place = ap joining_place j ∙ place (read_list s);
+      same_year = ap year_joined j ∙ year (read_list s);
+      in_terms = λ n. ap joining_list j ∙ named (read_list s) (λ e. n (ap joining_number j ∙ e));
     }
   where
-    number : (a : Reading) → joining_number (in_terms a) ≡ reading_number a
-    number reading.Done = refl
-    number (reading.Refused f k) = refl
+    number : (r : Result Year Refusal) → joining_number (in_terms r) ≡ reading_number r
+    number (Ok y) = refl
+    number (Err q) = refl
 
-    named : (a : Reading) → (joining_number (in_terms a) ≡ 0 → ⊥) → joining_list (in_terms a) ≡ 1
-    named reading.Done n = absurd (n refl)
-    named (reading.Refused f k) n = refl
+    place : (r : Result Year Refusal) → joining_place (in_terms r) ≡ reading_place r
+    place (Ok y) = refl
+    place (Err q) = refl
 
-    place : (a : Reading) → joining_place (in_terms a) ≡ reading_place a
-    place reading.Done = refl
-    place (reading.Refused f k) = refl
+    year : (r : Result Year Refusal) → year_joined (in_terms r) ≡ year_read r
+    year (Ok y) = refl
+    year (Err q) = refl
+
+    named : (r : Result Year Refusal) → (joining_number (in_terms r) ≡ 0 → ⊥) → joining_list (in_terms r) ≡ 1
+    named (Ok y) n = absurd (n refl)
+    named (Err q) n = refl
 
 -- ---- the statement
 

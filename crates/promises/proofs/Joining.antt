@@ -8,6 +8,7 @@ use native.Mathlib.Omega.{arith}
 use lib.Dec.{eqb, ltb}
 use lib.ListN.{length}
 use borrow.Author.Tests.{eqb-true, eqb-false}
+use Rattle.std.specs.Prelude.{Result, Ok, Err}
 use Rattle.theory.specs.Choice.{choose}
 use Rattle.theory.specs.Sum.{sum}
 use Rattle.theory.proofs.SumLaws.{pick_eq, pick_ne}
@@ -16,29 +17,26 @@ use Rattle.year.specs.declared.Course.{Course}
 use Rattle.year.specs.declared.Year.{Year}
 use Rattle.records.specs.Bytes.{letter_at, blank_from}
 use Rattle.records.specs.Numbers.{fault_number, reading_number, reading_place}
-use Rattle.records.specs.Reading.{Record, OfTerm, OfCourse, Faulty, bears_next, bad_weight, bad_list, course_by, term_record, of_term, of_course, blank_year, add_term, add_course, bad_length}
+use Rattle.records.specs.Reading.{Record, OfTerm, OfCourse, Faulty, bears_next, bad_weight, bad_list, course_by, term_record, of_term, of_course, blank_year, add_term, add_course, done, bad_length}
 use Rattle.records.specs.declared.Fault.{Fault}
 use Rattle.records.specs.declared.Fault.TheVariants as fault
-use Rattle.records.specs.declared.AsTerm.TheVariants as asTerm
-use Rattle.records.specs.declared.AsCourse.TheVariants as asCourse
-use Rattle.records.specs.declared.Reading.{Reading}
-use Rattle.records.specs.declared.Reading.TheVariants as reading
+use Rattle.records.specs.declared.Refusal.{Refusal}
 use Rattle.records.proofs.EntryLaws.{of_term_lem, term_no_course, course_no_term}
+use Rattle.records.proofs.GatherLaws.{fault_some}
 use Rattle.hours.specs.Numbers.{edition_number, joining_number, joining_list, joining_place}
 use Rattle.hours.specs.Entries.{weight_by, weighed, hours_by_itself, hours_record, term_alone}
 use Rattle.hours.specs.Joining.{term_entry, term_list, hours_entry, bad_hours, hours_list, in_hours, join_of}
 use Rattle.hours.specs.declared.Edition.{Edition}
 use Rattle.hours.specs.declared.Edition.TheVariants.{First, Second}
-use Rattle.hours.specs.declared.Joined.{Joined}
+use Rattle.hours.specs.declared.JoiningRefusal.{JoiningRefusal}
 use Rattle.hours.proofs.EntryLaws.{alone_read}
 use Rattle.hours.proofs.JoinLaws as law
 use Rattle.promises.specs.Refusals.{T, C, byte_of, word_of, before, BadLength, Wrong}
 use Rattle.promises.specs.Joining.{list, number, place, Answers, WrongTerm, no_term, as_in_reading, BadHours, too_long, no_multiple, WrongHours, no_hours, not_next, past_courses, no_edition, weightless, too_heavy, list_empty, term_lacking, third_not_zero, not_zero, TermsRight, JoiningDue}
 use Rattle.promises.proofs.Tells.{Tells, tells_eq, tells_lt, tells_not, tells_or, tells_nand, tells_same, tells_number, tells_blank, tells_weight, tells_list}
-use Rattle.promises.proofs.Judging.{Found, bad_length_lem, first_wrong, all_right, found_once, found_length, found_right, found_most, found_wrong, NoneBelow, Judged, one_more, none_start, none_left, row, row_passed, found_by}
+use Rattle.promises.proofs.Judging.{Found, bad_length_lem, first_wrong, all_right, found_once, found_length, found_right, found_most, found_wrong, NoneBelow, Judged, one_more, none_start, none_left, row, row_passed, found_by, found_summed}
 use Rattle.promises.proofs.RefusalRows.{tells_length, wrong_number}
 use Rattle.promises.proofs.Refusals.{letter_of, judged_term}
-use Rattle.promises.proofs.RoundTrip.{fault_has_number}
 
 -- ---- the terms' list
 
@@ -64,7 +62,7 @@ module _ (s : List ℕ) (k : ℕ) where
   unfolding term_alone
   judged_alone none = go (eqb (letter_at s (k * 16)) 84) refl
     where
-      go : (a : Bool) → eqb (letter_at s (k * 16)) 84 ≡ a → Judged (WrongTerm s) k (of_term (choose a (term_record s (k * 16) (before s T k)) (asTerm.Faulty fault.Letter)))
+      go : (a : Bool) → eqb (letter_at s (k * 16)) 84 ≡ a → Judged (WrongTerm s) k (of_term (choose a (term_record s (k * 16) (before s T k)) (Err fault.Letter)))
       go true p =
           let is : byte_of s k 0 ≡ T = letter_of s k ∙ eqb-true _ _ p in
           as_read is (of_term (term_record s (k * 16) (before s T k))) (judged_term s k is none)
@@ -99,7 +97,7 @@ module _ (s : List ℕ) where
 abbrev pub FoundTerms : List ℕ → ℕ → ℕ → Type 0
 FoundTerms t = Found (BadLength (length t)) (length t / 16) (WrongTerm t)
 
-pub found_terms : (t : List ℕ) → FoundTerms t (reading_number (term_list t).answer) (reading_place (term_list t).answer)
+pub found_terms : (t : List ℕ) → FoundTerms t (reading_number (term_list t)) (reading_place (term_list t))
 unfolding term_list
 found_terms t =
     found_by (WrongTerm t) (term_entry t) blank_year (OnlyTerms t) (only_start t) (only_term t) (only_course t) (judged_entry t) (BadLength (length t)) (length t / 16) (bad_length (length t)) (tells_length (length t))
@@ -207,16 +205,16 @@ module _ (m : ℕ) (s : List ℕ) (k : ℕ) where
   judged_weighed : (e : Edition) → byte_of s k 2 ≡ edition_number e → NoneBelow W k 4 → Judged W k (of_course (weighed e s (k * 16) m))
   unfolding course_by
   judged_weighed e is n4 =
-      row W of_course asCourse.Faulty (λ f. refl) k fault.Size (bad_weight (weight_in e)) _ (hours_weight e is) n4 λ n5.
-      row W of_course asCourse.Faulty (λ f. refl) k fault.List (bad_list (word_of s k 8) m) _ hours_list_lem (one_more W k 5 n5 (λ w. no_fifth 5 w refl)) λ n7.
-      row_passed W of_course asCourse.Faulty (λ f. refl) k fault.Padding zeros_in _ hours_zeros n7
+      row W of_course (λ f. refl) k fault.Size (bad_weight (weight_in e)) _ (hours_weight e is) n4 λ n5.
+      row W of_course (λ f. refl) k fault.List (bad_list (word_of s k 8) m) _ hours_list_lem (one_more W k 5 n5 (λ w. no_fifth 5 w refl)) λ n7.
+      row_passed W of_course (λ f. refl) k fault.Padding zeros_in _ hours_zeros n7
       (none_left W (hours_few m s) k)
 
   judged_by_itself : NoneBelow W k 4 → Judged W k (of_course (hours_by_itself s (k * 16) m))
   unfolding hours_by_itself
   judged_by_itself n4 = go (eqb (byte_of s k 2) 1) refl (eqb (byte_of s k 2) 2) refl
     where
-      go : (a : Bool) → eqb (byte_of s k 2) 1 ≡ a → (b : Bool) → eqb (byte_of s k 2) 2 ≡ b → Judged W k (of_course (choose a (weighed First s (k * 16) m) (choose b (weighed Second s (k * 16) m) (asCourse.Faulty fault.Size))))
+      go : (a : Bool) → eqb (byte_of s k 2) 1 ≡ a → (b : Bool) → eqb (byte_of s k 2) 2 ≡ b → Judged W k (of_course (choose a (weighed First s (k * 16) m) (choose b (weighed Second s (k * 16) m) (Err fault.Size))))
       go true p b q = judged_weighed First (eqb-true _ _ p) n4
       go false p true q = judged_weighed Second (eqb-true _ _ q) n4
       go false p false q = (no_edition (eqb-false _ _ p) (eqb-false _ _ q), n4)
@@ -224,8 +222,8 @@ module _ (m : ℕ) (s : List ℕ) (k : ℕ) where
   judged_hours : Judged W k (of_course (hours_record s (k * 16) k m))
   unfolding hours_record
   judged_hours =
-      row_passed W of_course asCourse.Faulty (λ f. refl) k fault.Letter (eqb (letter_at s (k * 16)) 72) _ hours_letter (none_start W (hours_few m s) k) λ n3.
-      row_passed W of_course asCourse.Faulty (λ f. refl) k fault.Number (bears_next s (k * 16) k 64) (hours_by_itself s (k * 16) m) hours_number n3 judged_by_itself
+      row_passed W of_course (λ f. refl) k fault.Letter (eqb (letter_at s (k * 16)) 72) _ hours_letter (none_start W (hours_few m s) k) λ n3.
+      row_passed W of_course (λ f. refl) k fault.Number (bears_next s (k * 16) k 64) (hours_by_itself s (k * 16) m) hours_number n3 judged_by_itself
 
 abbrev FoundHours : ℕ → List ℕ → ℕ → ℕ → Type 0
 FoundHours m h = Found (BadHours (length h)) (length h / 16) (WrongHours m h)
@@ -235,10 +233,10 @@ module _ (y : Year) (h : List ℕ) where
   abbrev InTurn : ℕ → Year → Type 0
   InTurn k z = (z.courses ≡ k) × (z.terms ≡ y.terms)
 
-  found_hours : y.courses ≡ 0 → FoundHours y.terms h (reading_number (hours_list y h).answer) (reading_place (hours_list y h).answer)
+  found_hours : y.courses ≡ 0 → FoundHours y.terms h (reading_number (hours_list y h)) (reading_place (hours_list y h))
   unfolding hours_list
   found_hours none =
-      found_by (WrongHours y.terms h) (hours_entry h) y InTurn (none, refl)
+      found_summed (WrongHours y.terms h) (hours_entry h) y InTurn (none, refl)
       (λ k z t p e. absurd (course_no_term (hours_record h (k * 16) z.courses z.terms) t e))
       (λ k z c p e. (omega (arith, p.0), p.1))
       (λ k z p. rw (p.0, p.1) (judged_hours y.terms h k))
@@ -254,27 +252,28 @@ data JoinFound (t h : List ℕ) : ℕ → ℕ → ℕ → Type 0 where
 
 -- a fault has a number
 some : (f : Fault) → 1 ≤ fault_number f
-some f = let n = fault_has_number f in omega (arith, n)
+some f = let n = fault_some f in omega (arith, n)
 
 join_found : (t h : List ℕ) → JoinFound t h (list t h) (number t h) (place t h)
 join_found t h = go (join_of t h) (law.ends t h)
   where
-    terms_found : (a : Reading) → (term_list t).answer ≡ a → FoundTerms t (reading_number a) (reading_place a)
-    terms_found a p = subst (λ (a : Reading). FoundTerms t (reading_number a) (reading_place a)) p (found_terms t)
+    terms_found : (r : Result Year Refusal) → term_list t ≡ r → FoundTerms t (reading_number r) (reading_place r)
+    terms_found r p = subst (λ (r : Result Year Refusal). FoundTerms t (reading_number r) (reading_place r)) p (found_terms t)
 
-    hours_found : (term_list t).answer ≡ reading.Done → (a : Reading) → (hours_list (term_list t).year h).answer ≡ a → FoundHours (length t / 16) h (reading_number a) (reading_place a)
-    hours_found p a e =
-        let r = law.terms_done t p in
-        subst (λ (m : ℕ). FoundHours m h (reading_number a) (reading_place a)) r.0.count
-        (subst (λ (a : Reading). FoundHours (term_list t).year.terms h (reading_number a) (reading_place a)) e (found_hours (term_list t).year h r.0.no_course))
+    hours_found : (y : Year) → term_list t ≡ done y → (r : Result Year Refusal) → hours_list y h ≡ r → FoundHours (length t / 16) h (reading_number r) (reading_place r)
+    hours_found y p r e =
+        let d = law.terms_done t y p in
+        subst (λ (m : ℕ). FoundHours m h (reading_number r) (reading_place r)) d.0.count
+        (subst (λ (r : Result Year Refusal). FoundHours y.terms h (reading_number r) (reading_place r)) e (found_hours y h d.0.no_course))
 
-    go : (j : Joined) → law.Ends t h j → JoinFound t h (joining_list j.answer) (joining_number j.answer) (joining_place j.answer)
-    go j (law.in_terms f k p) = in_terms (some f) (terms_found (reading.Refused f k) p)
-    go j (law.behind p) = by (hours_list (term_list t).year h).answer refl
-      where
-        by : (a : Reading) → (hours_list (term_list t).year h).answer ≡ a → JoinFound t h (joining_list (in_hours a)) (joining_number (in_hours a)) (joining_place (in_hours a))
-        by reading.Done e = in_neither (terms_found reading.Done p) (hours_found p reading.Done e)
-        by (reading.Refused f k) e = in_hours_lem (some f) (terms_found reading.Done p) (hours_found p (reading.Refused f k) e)
+    behind : (y : Year) → term_list t ≡ done y → (r : Result Year Refusal) → hours_list y h ≡ r
+        → JoinFound t h (joining_list (in_hours r)) (joining_number (in_hours r)) (joining_place (in_hours r))
+    behind y p (Ok z) e = in_neither (terms_found (done y) p) (hours_found y p (done z) e)
+    behind y p (Err q) e = in_hours_lem (some q.fault) (terms_found (done y) p) (hours_found y p (Err q) e)
+
+    go : (r : Result Year JoiningRefusal) → law.Ends t h r → JoinFound t h (joining_list r) (joining_number r) (joining_place r)
+    go r (law.in_terms q p) = in_terms (some q.fault) (terms_found (Err q) p)
+    go r (law.behind y p) = behind y p (hours_list y h) refl
 
 -- they say it once
 join_once : (t h : List ℕ) (l n k l' n' k' : ℕ) → JoinFound t h l n k → JoinFound t h l' n' k' → (l ≡ l') × (n ≡ n') × (k ≡ k')

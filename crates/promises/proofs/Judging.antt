@@ -5,16 +5,16 @@ use mathlib.Core.Bool.{Bool, true, false, not}
 use mathlib.Core.Path.{◌≡◌, refl, sym, subst}
 use native.Mathlib.Omega.{arith}
 use native.Mathlib.Decide.{ℕ_discrete, dec_lt}
+use Rattle.std.specs.Prelude.{Result, Ok, Err}
 use Rattle.theory.specs.Choice.{choose}
 use Rattle.year.specs.declared.Term.{Term}
 use Rattle.year.specs.declared.Course.{Course}
 use Rattle.year.specs.declared.Year.{Year}
 use Rattle.records.specs.Numbers.{fault_number, reading_number, reading_place}
-use Rattle.records.specs.Reading.{Record, OfTerm, OfCourse, Faulty, add_term, add_course, done, gathered}
+use Rattle.records.specs.Reading.{Record, OfTerm, OfCourse, Faulty, add_term, add_course, done, gathered, summed}
 use Rattle.records.specs.declared.Fault.{Fault}
-use Rattle.records.specs.declared.Reading.{Reading}
-use Rattle.records.specs.declared.Reading.TheVariants.{Done, Refused}
-use Rattle.records.proofs.GatherLaws.{is_done, gathered_keeps, first_fault, listed}
+use Rattle.records.specs.declared.Refusal.{Refusal}
+use Rattle.records.proofs.GatherLaws.{gathered_keeps, first_fault, listed}
 use Rattle.promises.specs.Refusals.{FirstWrong}
 use Rattle.promises.proofs.Tells.{Tells}
 
@@ -108,16 +108,16 @@ module _ (wrong : ℕ → ℕ → Type 0) where
     none_left k none n w = none n (omega (arith, (few k n w).1)) w
 
   -- the test of one row, where nothing of a lower number is wrong: it fails by the row, or the row is right and the rest decides
-  module _ {A : Type 0} (of : A → Record) (faulty : Fault → A) (is : (f : Fault) → of (faulty f) ≡ Faulty f) (k : ℕ) where
-    fails : (f : Fault) → wrong k (fault_number f) → NoneBelow k (fault_number f) → Judged k (of (faulty f))
+  module _ {A : Type 0} (of : Result A Fault → Record) (is : (f : Fault) → of (Err f) ≡ Faulty f) (k : ℕ) where
+    fails : (f : Fault) → wrong k (fault_number f) → NoneBelow k (fault_number f) → Judged k (of (Err f))
     fails f w none = subst (Judged k) (sym (is f)) (w, none)
 
-    pub row : (f : Fault) (b : Bool) (rest : A) → Tells b (wrong k (fault_number f)) → NoneBelow k (fault_number f) → (NoneBelow k (suc (fault_number f)) → Judged k (of rest)) → Judged k (of (choose b (faulty f) rest))
+    pub row : (f : Fault) (b : Bool) (rest : Result A Fault) → Tells b (wrong k (fault_number f)) → NoneBelow k (fault_number f) → (NoneBelow k (suc (fault_number f)) → Judged k (of rest)) → Judged k (of (choose b (Err f) rest))
     row f true rest t none more = fails f (t.0 refl) none
     row f false rest t none more = more (one_more k (fault_number f) none (t.1 refl))
 
     -- the same of a test that is to pass
-    pub row_passed : (f : Fault) (b : Bool) (rest : A) → Tells (not b) (wrong k (fault_number f)) → NoneBelow k (fault_number f) → (NoneBelow k (suc (fault_number f)) → Judged k (of rest)) → Judged k (of (choose b rest (faulty f)))
+    pub row_passed : (f : Fault) (b : Bool) (rest : Result A Fault) → Tells (not b) (wrong k (fault_number f)) → NoneBelow k (fault_number f) → (NoneBelow k (suc (fault_number f)) → Judged k (of rest)) → Judged k (of (choose b rest (Err f)))
     row_passed f true rest t none more = more (one_more k (fault_number f) none (t.1 refl))
     row_passed f false rest t none more = fails f (t.0 refl) none
 
@@ -145,15 +145,26 @@ module _ (wrong : ℕ → ℕ → Type 0) (entry : ℕ → Year → Record) (sta
       (λ k y c p e. (course k y c p.0 e, right_more k p.1 (subst (Judged wrong k) e (judged k y p.0))))
 
   module _ (bad : Type 0) (records : ℕ) where
-    found_records : (bad → ⊥) → (a : Reading) → (gathered entry start records).answer ≡ a → Found bad records wrong (reading_number a) (reading_place a)
-    found_records good Done e = all_right good (behind records (gathered entry start records).year (is_done (gathered entry start records) e)).1
-    found_records good (Refused f k) e =
-        let r = first_fault entry start records f k e in
-        let p = behind k r.1.so_far r.1.taken_before in
-        let j : Judged wrong k (Faulty f) = subst (Judged wrong k) r.1.fault_here (judged k r.1.so_far p.0) in
+    abbrev pub FoundFor : Result Year Refusal → Type 0
+    FoundFor r = Found bad records wrong (reading_number r) (reading_place r)
+
+    found_records : (bad → ⊥) → (r : Result Year Refusal) → gathered entry start records ≡ r → FoundFor r
+    found_records good (Ok y) e = all_right good (behind records y e).1
+    found_records good (Err q) e =
+        let r = first_fault entry start records q.fault q.record e in
+        let p = behind q.record r.1.so_far r.1.taken_before in
+        let j : Judged wrong q.record (Faulty q.fault) = subst (Judged wrong q.record) r.1.fault_here (judged q.record r.1.so_far p.0) in
         first_wrong (record { good_length = good; in_list = r.0; before_right = p.1; is_wrong = j.0; none_lower = j.1 })
 
     -- what the list is answered by is what the rows say
-    pub found_by : (test : Bool) → Tells test bad → let a = (listed test entry start records).answer in Found bad records wrong (reading_number a) (reading_place a)
+    pub found_by : (test : Bool) → Tells test bad → FoundFor (listed test entry start records)
     found_by true t = bad_length_lem (t.0 refl)
-    found_by false t = found_records (t.1 refl) (gathered entry start records).answer refl
+    found_by false t = found_records (t.1 refl) (gathered entry start records) refl
+
+    -- also where its year is handed back with the sums
+    pub found_summed : (test : Bool) → Tells test bad → FoundFor (summed (listed test entry start records))
+    found_summed test t = go (listed test entry start records) (found_by test t)
+      where
+        go : (r : Result Year Refusal) → FoundFor r → FoundFor (summed r)
+        go (Ok y) f = f
+        go (Err q) f = f

@@ -8,6 +8,7 @@ use native.Mathlib.Omega.{arith}
 use lib.Dec.{leb}
 use lib.ListN.{length, drop}
 use borrow.Author.Tests.{leb-true, leb-false}
+use Rattle.std.specs.Prelude.{Result, Ok, Err}
 use Rattle.theory.specs.Choice.{choose}
 use Rattle.year.specs.Examples.{year_e, two_plans}
 use Rattle.year.proofs.PlanCount.{each_plan_once}
@@ -15,35 +16,34 @@ use Rattle.records.specs.Examples.{year_e_read}
 use Rattle.display.specs.Listing.{listing_of, listed_of, listed_in}
 use Rattle.display.specs.Numbers.{listed_number, listed_length}
 use Rattle.display.specs.Examples.{year_e_lem}
-use Rattle.display.specs.declared.Listed.{Listed}
-use Rattle.display.specs.declared.Listed.TheVariants.{Done, Short}
+use Rattle.display.specs.declared.TooShort.{TooShort}
 use Rattle.display.proofs.LongestLaws.{longest, listing_whole}
 use Rattle.promises.specs.Listing.{ListingDue, PlansCounted, YearE}
 
 -- an answer for a text t and a buffer b, and what it leaves there
-data Written (t b : List ℕ) : Listed → List ℕ → Type 0 where
-  done : length t ≤ length b → Written t b (Done (length t)) (t ++ drop (length t) b)
-  short : length b < length t → Written t b Short b
+data Written (t b : List ℕ) : Result ℕ TooShort → List ℕ → Type 0 where
+  done : length t ≤ length b → Written t b (Ok (length t)) (t ++ drop (length t) b)
+  short : {e : TooShort} → length b < length t → Written t b (Err e) b
 
 listed : (s b : List ℕ) → Written (listing_of s) b (listed_of s (length b)) (listed_in s b)
 unfolding listed_of listed_in
 listed s b = go (leb (length (listing_of s)) (length b)) refl
   where
     go : (c : Bool) → leb (length (listing_of s)) (length b) ≡ c
-        → Written (listing_of s) b (choose c (Done (length (listing_of s))) Short) (choose c (listing_of s ++ drop (length (listing_of s)) b) b)
+        → Written (listing_of s) b (choose c (Ok (length (listing_of s))) (Err (record {}))) (choose c (listing_of s ++ drop (length (listing_of s)) b) b)
     go true e = done (leb-true _ _ e)
     go false e = short (leb-false _ _ e)
 
 -- the answer alone, by the room
-data Told (t : List ℕ) (room : ℕ) : Listed → Type 0 where
-  done : length t ≤ room → Told t room (Done (length t))
-  short : room < length t → Told t room Short
+data Told (t : List ℕ) (room : ℕ) : Result ℕ TooShort → Type 0 where
+  done : length t ≤ room → Told t room (Ok (length t))
+  short : {e : TooShort} → room < length t → Told t room (Err e)
 
 told : (s : List ℕ) (room : ℕ) → Told (listing_of s) room (listed_of s room)
 unfolding listed_of
 told s room = go (leb (length (listing_of s)) room) refl
   where
-    go : (c : Bool) → leb (length (listing_of s)) room ≡ c → Told (listing_of s) room (choose c (Done (length (listing_of s))) Short)
+    go : (c : Bool) → leb (length (listing_of s)) room ≡ c → Told (listing_of s) room (choose c (Ok (length (listing_of s))) (Err (record {})))
     go true e = done (leb-true _ _ e)
     go false e = short (leb-false _ _ e)
 
@@ -58,23 +58,23 @@ listing_due = record {
   printed = listing_whole;
 }
   where
-    nine : {t : List ℕ} {room : ℕ} {a : Listed} → Told t room a → (listed_number a ≡ 9) ↔ (room < length t)
+    nine : {t : List ℕ} {room : ℕ} {a : Result ℕ TooShort} → Told t room a → (listed_number a ≡ 9) ↔ (room < length t)
     nine (done h) = (λ q. absurd (omega arith), λ q. absurd (omega arith))
     nine (short h) = (λ q. h, λ q. refl)
 
-    none : {t : List ℕ} {room : ℕ} {a : Listed} → Told t room a → (listed_number a ≡ 0) ↔ (length t ≤ room)
+    none : {t : List ℕ} {room : ℕ} {a : Result ℕ TooShort} → Told t room a → (listed_number a ≡ 0) ↔ (length t ≤ room)
     none (done h) = (λ q. h, λ q. refl)
     none (short h) = (λ q. absurd (omega arith), λ q. absurd (omega arith))
 
-    long : {t : List ℕ} {room : ℕ} {a : Listed} → Told t room a → listed_number a ≡ 0 → listed_length a ≡ length t
+    long : {t : List ℕ} {room : ℕ} {a : Result ℕ TooShort} → Told t room a → listed_number a ≡ 0 → listed_length a ≡ length t
     long (done h) q = refl
     long (short h) q = absurd (omega arith)
 
-    front : {t b d : List ℕ} {a : Listed} → Written t b a d → listed_number a ≡ 0 → d ≡ t ++ drop (length t) b
+    front : {t b d : List ℕ} {a : Result ℕ TooShort} → Written t b a d → listed_number a ≡ 0 → d ≡ t ++ drop (length t) b
     front (done h) q = refl
     front (short h) q = absurd (omega arith)
 
-    same : {t b d : List ℕ} {a : Listed} → Written t b a d → listed_number a ≡ 9 → d ≡ b
+    same : {t b d : List ℕ} {a : Result ℕ TooShort} → Written t b a d → listed_number a ≡ 9 → d ≡ b
     same (done h) q = absurd (omega arith)
     same (short h) q = refl
 

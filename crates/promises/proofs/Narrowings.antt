@@ -7,6 +7,7 @@ use native.Mathlib.Omega.{arith}
 use lib.Dec.{eqb, leb}
 use lib.Seq.{set-get_or}
 use borrow.Author.Tests.{eqb-true, leb-false, eq-eqb}
+use Rattle.std.specs.Prelude.{Ok, Err}
 use Rattle.theory.specs.Choice.{choose}
 use Rattle.theory.proofs.ChoiceLaws.{choose_case}
 use Rattle.theory.proofs.TestLaws.{or_false}
@@ -24,8 +25,8 @@ use Rattle.year.specs.declared.Side.{Side}
 use Rattle.year.specs.declared.Term.{Term}
 use Rattle.year.specs.declared.Tight.{Tight}
 use Rattle.year.specs.declared.Year.{Year}
-use Rattle.year.specs.declared.Narrowing.{Narrowing}
-use Rattle.year.specs.declared.Narrowing.TheVariants.{Done, Unsound, Missing, Outside, Crossing}
+use Rattle.year.specs.declared.NarrowingRefusal.{NarrowingRefusal}
+use Rattle.year.specs.declared.NarrowingRefusal.TheVariants.{Unsound, Missing, Outside, Crossing}
 use Rattle.year.specs.declared.Narrowed.{Narrowed}
 use Rattle.year.proofs.BoundLaws.{tight_beyond, tight_crossed, loose_within}
 use Rattle.year.proofs.SoundLaws.{sound_of, with_sums_same}
@@ -37,29 +38,36 @@ use Rattle.promises.specs.Narrowings.{Narrow, place, bar, tighten, narrow, Meets
 
 -- ---- refused, or done
 
+-- a refusal has a number
+pub refusal_some : (r : NarrowingRefusal) → narrowing_number (Err r) ≡ 0 → ⊥
+refusal_some Unsound e = omega arith
+refusal_some Missing e = omega arith
+refusal_some Outside e = omega arith
+refusal_some Crossing e = omega arith
+
 module _ (y : Year) (n : Narrow) where
-  when_refused : (a : Narrowing) → (narrowing_number a ≡ 0 → ⊥) → narrowing_number a ≡ number_due y n → NarrowedBy y n (answered a y)
-  when_refused a ne e = record {
+  when_refused : (r : NarrowingRefusal) → narrowing_number (Err r) ≡ number_due y n → NarrowedBy y n (answered (Err r) y)
+  when_refused r e = record {
     narrower = λ s. narrower_self y s;
-    plans = λ z p. absurd (ne z);
+    plans = λ z p. absurd (refusal_some r z);
     refused = λ q. refl;
     number = e;
   }
 
-  when_done : (z : Year) → Narrower y z → ((p : Placing) → Plan z p ↔ (Plan y p × Meets y n p)) → 0 ≡ number_due y n → NarrowedBy y n (answered Done z)
+  when_done : (z : Year) → Narrower y z → ((p : Placing) → Plan z p ↔ (Plan y p × Meets y n p)) → 0 ≡ number_due y n → NarrowedBy y n (answered (Ok tt) z)
   when_done z w h e = record { narrower = λ s. w; plans = λ q p. h p; refused = λ q. absurd (q refl); number = e }
 
   -- refusals 8, 10 and 11 are in order: it is left to show what the narrowing does then
   past_refusals : (r : Narrowed) → (Sound y → missing y n ≡ false → number_due y n ≡ choose (crossing y n) 12 0 → NarrowedBy y n r)
       → NarrowedBy y n (checked y (missing y n) (outside n) r)
   past_refusals r h =
-      choose_case (NarrowedBy y n) (is_sound y) (choose (missing y n) (answered Missing y) (choose (outside n) (answered Outside y) r)) (answered Unsound y)
-      (λ e. choose_case (NarrowedBy y n) (missing y n) (answered Missing y) (choose (outside n) (answered Outside y) r)
-      (λ m. when_refused Missing (λ z. omega arith) (rw (e, m)))
-      (λ m. choose_case (NarrowedBy y n) (outside n) (answered Outside y) r
-      (λ o. when_refused Outside (λ z. omega arith) (rw (e, m, o)))
+      choose_case (NarrowedBy y n) (is_sound y) (choose (missing y n) (answered (Err Missing) y) (choose (outside n) (answered (Err Outside) y) r)) (answered (Err Unsound) y)
+      (λ e. choose_case (NarrowedBy y n) (missing y n) (answered (Err Missing) y) (choose (outside n) (answered (Err Outside) y) r)
+      (λ m. when_refused Missing (rw (e, m)))
+      (λ m. choose_case (NarrowedBy y n) (outside n) (answered (Err Outside) y) r
+      (λ o. when_refused Outside (rw (e, m, o)))
       (λ o. h (sound_of y e) m (rw (e, m, o)))))
-      (λ e. when_refused Unsound (λ z. omega arith) (rw e))
+      (λ e. when_refused Unsound (rw e))
 
 -- ---- bounds: one law for the four
 
@@ -87,10 +95,10 @@ module _ (s : Side) (q : Quantity) (y : Year) (j v : ℕ) where
   moving_narrows : Sound y → j < y.terms → number_due y n ≡ choose (crossing y n) 12 0 → NarrowedBy y n (moving y j w)
   moving_narrows sound l due =
       let number : number_due y n ≡ choose w.crossed 12 0 = due ∙ ap (λ b. choose b 12 0) (sym (crossed_is s q (term_at y j) v (sound.term_sound j l))) in
-      choose_case (NarrowedBy y n) w.crossed (answered Crossing y) (choose w.altered (answered Done (with_term y j w.term)) (answered Done y))
-      (λ c. when_refused y n Crossing (λ z. omega arith) (rw (number, c)))
+      choose_case (NarrowedBy y n) w.crossed (answered (Err Crossing) y) (choose w.altered (answered (Ok tt) (with_term y j w.term)) (answered (Ok tt) y))
+      (λ c. when_refused y n Crossing (rw (number, c)))
       (λ c.
-      choose_case (NarrowedBy y n) w.altered (answered Done (with_term y j w.term)) (answered Done y)
+      choose_case (NarrowedBy y n) w.altered (answered (Ok tt) (with_term y j w.term)) (answered (Ok tt) y)
       (λ e.
       let t = tight_beyond s q (term_at y j) v e c in
       when_done y n (with_term y j w.term) (narrows_moved y s q j v sound (l, t.0, t.1)).year (λ p. moved_plans y s q j v p sound l) (rw (number, c)))
@@ -126,9 +134,9 @@ module _ (y : Year) (i j : ℕ) where
       past_refusals y (place i j) (placing y i j)
       (λ s m due.
       let k = there_are y i j m in
-      choose_case (NarrowedBy y (place i j)) (lists (course_at y i) j) (answered Done (placed y i j)) (answered Crossing y)
+      choose_case (NarrowedBy y (place i j)) (lists (course_at y i) j) (answered (Ok tt) (placed y i j)) (answered (Err Crossing) y)
       (λ e. when_done y (place i j) (placed y i j) (placed_narrower s k.0 k.1 e) (λ p. placed_plans y i j p s k.0 e) (rw (due, e)))
-      (λ e. when_refused y (place i j) Crossing (λ z. omega arith) (rw (due, e))))
+      (λ e. when_refused y (place i j) Crossing (rw (due, e))))
 
   -- a course that does not list j is not in j, and j alone is not its list
   unlisted : lists (course_at y i) j ≡ false → eqb (list y i) (2 ^ j) ≡ false
@@ -145,10 +153,10 @@ module _ (y : Year) (i j : ℕ) where
       (λ s m due.
       let k = there_are y i j m in
       choose_case (NarrowedBy y (bar i j)) (lists (course_at y i) j)
-      (choose (eqb (list y i) (2 ^ j)) (answered Crossing y) (answered Done (struck y i j))) (answered Done y)
+      (choose (eqb (list y i) (2 ^ j)) (answered (Err Crossing) y) (answered (Ok tt) (struck y i j))) (answered (Ok tt) y)
       (λ e.
-      choose_case (NarrowedBy y (bar i j)) (eqb (list y i) (2 ^ j)) (answered Crossing y) (answered Done (struck y i j))
-      (λ q. when_refused y (bar i j) Crossing (λ z. omega arith) (rw (due, q)))
+      choose_case (NarrowedBy y (bar i j)) (eqb (list y i) (2 ^ j)) (answered (Err Crossing) y) (answered (Ok tt) (struck y i j))
+      (λ q. when_refused y (bar i j) Crossing (rw (due, q)))
       (λ q.
       when_done y (bar i j) (struck y i j) (narrows_struck y i j s k.0 k.1 (rw (e, q) refl)).year
       (λ p. struck_plans y i j p s k.0 e) (rw (due, q))))

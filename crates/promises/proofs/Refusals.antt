@@ -16,19 +16,17 @@ use Rattle.year.specs.declared.Course.{Course}
 use Rattle.year.specs.declared.Year.{Year}
 use Rattle.records.specs.Bytes.{letter_at, blank_from}
 use Rattle.records.specs.Numbers.{reading_number}
-use Rattle.records.specs.Reading.{OfTerm, OfCourse, bears_next, bad_bounds, bad_order, bad_weight, bad_list, term_by_itself, course_by, term_record, course_record, of_term, of_course, record_at, blank_year, add_term, add_course, record_in, bad_length, read_list}
+use Rattle.records.specs.Reading.{OfTerm, OfCourse, bears_next, bad_bounds, bad_order, bad_weight, bad_list, term_by_itself, course_by, term_record, course_record, of_term, of_course, record_at, blank_year, add_term, add_course, record_in, bad_length, read_list, year_read}
 use Rattle.records.specs.declared.Fault.TheVariants as fault
-use Rattle.records.specs.declared.AsTerm.TheVariants as asTerm
-use Rattle.records.specs.declared.AsCourse.TheVariants as asCourse
 use Rattle.records.proofs.EntryLaws.{record_term, record_course}
+use Rattle.records.proofs.GatherLaws.{is_done}
 use Rattle.records.proofs.ListLaws.{Front, front_start, front_term, front_course, read_sound}
 use Rattle.records.proofs.ReadWrite.{read_write}
 use Rattle.records.proofs.WriteRead.{write_read}
 use Rattle.promises.specs.Refusals.{T, C, byte_of, word_of, before, BadLength, Wrong, neither_letter, course_first, term_behind_course, number, place, ReadingDue}
 use Rattle.promises.proofs.Tells.{Tells, tells_eq, tells_le, tells_and}
-use Rattle.promises.proofs.Judging.{Found, bad_length_lem, first_wrong, all_right, found_once, found_length, found_right, found_most, found_wrong, Judged, one_more, none_start, none_left, row, row_passed, found_by}
+use Rattle.promises.proofs.Judging.{Found, bad_length_lem, first_wrong, all_right, found_once, found_length, found_right, found_most, found_wrong, Judged, one_more, none_start, none_left, row, row_passed, found_summed}
 use Rattle.promises.proofs.RefusalRows.{tells_length, term_letter, term_number, term_size, term_order, term_list, term_padding, course_letter, course_number, course_size, course_order, course_list, course_padding, wrong_number}
-use Rattle.promises.proofs.RoundTrip.{read_done}
 
 -- ---- one record
 
@@ -39,19 +37,19 @@ module _ (s : List ℕ) (k : ℕ) where
   pub judged_term : byte_of s k 0 ≡ T → before s C k ≡ 0 → Judged (Wrong s) k (of_term (term_record s (k * 16) (before s T k)))
   unfolding term_record term_by_itself
   judged_term is none =
-      row_passed (Wrong s) of_term asTerm.Faulty (λ f. refl) k fault.Number (bears_next s (k * 16) (before s T k) 16) (term_by_itself s (k * 16)) (term_number s k is) (one_more (Wrong s) k 2 (none_start (Wrong s) (wrong_number s) k) (term_letter s k is none)) λ n3.
-      row (Wrong s) of_term asTerm.Faulty (λ f. refl) k fault.Size (bad_bounds s (k * 16)) _ (term_size s k is) n3 λ n4.
-      row (Wrong s) of_term asTerm.Faulty (λ f. refl) k fault.Order (bad_order s (k * 16)) _ (term_order s k is) n4 λ n5.
-      row_passed (Wrong s) of_term asTerm.Faulty (λ f. refl) k fault.Padding (blank_from s (k * 16) 10) _ (term_padding s k is) (one_more (Wrong s) k 6 n5 (term_list s k is))
+      row_passed (Wrong s) of_term (λ f. refl) k fault.Number (bears_next s (k * 16) (before s T k) 16) (term_by_itself s (k * 16)) (term_number s k is) (one_more (Wrong s) k 2 (none_start (Wrong s) (wrong_number s) k) (term_letter s k is none)) λ n3.
+      row (Wrong s) of_term (λ f. refl) k fault.Size (bad_bounds s (k * 16)) _ (term_size s k is) n3 λ n4.
+      row (Wrong s) of_term (λ f. refl) k fault.Order (bad_order s (k * 16)) _ (term_order s k is) n4 λ n5.
+      row_passed (Wrong s) of_term (λ f. refl) k fault.Padding (blank_from s (k * 16) 10) _ (term_padding s k is) (one_more (Wrong s) k 6 n5 (term_list s k is))
       (none_left (Wrong s) (wrong_number s) k)
 
   judged_course : byte_of s k 0 ≡ C → 1 ≤ k → Judged (Wrong s) k (of_course (course_record s (k * 16) (before s C k) (before s T k)))
   unfolding course_record course_by
   judged_course is some =
-      row_passed (Wrong s) of_course asCourse.Faulty (λ f. refl) k fault.Number (bears_next s (k * 16) (before s C k) 64) _ (course_number s k is) (one_more (Wrong s) k 2 (none_start (Wrong s) (wrong_number s) k) (course_letter s k is some)) λ n3.
-      row (Wrong s) of_course asCourse.Faulty (λ f. refl) k fault.Size (bad_weight (word_of s k 2)) _ (course_size s k is) n3 λ n4.
-      row (Wrong s) of_course asCourse.Faulty (λ f. refl) k fault.List (bad_list (word_of s k 4) (before s T k)) _ (course_list s k is) (one_more (Wrong s) k 5 n4 (course_order s k is)) λ n6.
-      row_passed (Wrong s) of_course asCourse.Faulty (λ f. refl) k fault.Padding (blank_from s (k * 16) 6) _ (course_padding s k is) n6
+      row_passed (Wrong s) of_course (λ f. refl) k fault.Number (bears_next s (k * 16) (before s C k) 64) _ (course_number s k is) (one_more (Wrong s) k 2 (none_start (Wrong s) (wrong_number s) k) (course_letter s k is some)) λ n3.
+      row (Wrong s) of_course (λ f. refl) k fault.Size (bad_weight (word_of s k 2)) _ (course_size s k is) n3 λ n4.
+      row (Wrong s) of_course (λ f. refl) k fault.List (bad_list (word_of s k 4) (before s T k)) _ (course_list s k is) (one_more (Wrong s) k 5 n4 (course_order s k is)) λ n6.
+      row_passed (Wrong s) of_course (λ f. refl) k fault.Padding (blank_from s (k * 16) 6) _ (course_padding s k is) n6
       (none_left (Wrong s) (wrong_number s) k)
 
   -- the letter and what stands before it: a term, a course
@@ -138,7 +136,7 @@ FoundOf s = Found (BadLength (length s)) (length s / 16) (Wrong s)
 found : (s : List ℕ) → FoundOf s (number s) (place s)
 unfolding read_list
 found s =
-    found_by (Wrong s) (record_in s) blank_year (Behind s) (behind_start s) (behind_term s) (behind_course s) (judged s) (BadLength (length s)) (length s / 16) (bad_length (length s)) (tells_length (length s))
+    found_summed (Wrong s) (record_in s) blank_year (Behind s) (behind_start s) (behind_term s) (behind_course s) (judged s) (BadLength (length s)) (length s / 16) (bad_length (length s)) (tells_length (length s))
 
 -- ---- the statement
 
@@ -159,8 +157,8 @@ reading_due = record {
   by_record = λ s n k h. (λ e. found_wrong n k h (found_at s n k e.0 e.1), λ w. answered s n k (first_wrong w));
   read = λ s. (λ e. found_right (wrong_number s) (place s) (found_at s 0 (place s) e refl), λ r. (answered s 0 0 (all_right r.0 r.1)).0);
   reads_records = λ s bytes. (
-    λ e. ((read_list s).year, read_sound s (read_list s).year (read_done s e), read_write s bytes (read_list s).year (read_done s e)),
-    λ (y, sound, is). ap number (sym is) ∙ ap (λ r. reading_number r.answer) (write_read y sound),
+    λ e. let y = year_read (read_list s) in let is = is_done (read_list s) e in (y, read_sound s y is, read_write s bytes y is),
+    λ (y, sound, is). ap number (sym is) ∙ ap reading_number (write_read y sound),
   );
   no_other_number = λ s. found_most (wrong_number s) (number s) (place s) (found s);
 }

@@ -1,4 +1,4 @@
--- What a write leaves of a lent buffer; what a reading hands back that is refused, and that a reading numbered 0 is done.
+-- What a write leaves of a lent buffer; and that a refused reading hands out no year.
 use Prim.Native.Nat.{ℕ}
 use mathlib.Core.Bool.{Bool, true, false}
 use mathlib.Core.List.{List}
@@ -7,17 +7,15 @@ use native.Mathlib.Omega.{arith}
 use lib.Dec.{leb}
 use lib.ListN.{length, take, drop}
 use lib.Seq.{take-append_seam, drop-append_seam}
+use Rattle.std.specs.Prelude.{Err}
 use Rattle.year.specs.Doors.{empty_year}
 use Rattle.year.specs.Sound.{is_sound}
 use Rattle.year.specs.declared.Year.{Year}
-use Rattle.records.specs.Numbers.{fault_number, reading_number, writing_number}
-use Rattle.records.specs.Reading.{read_list, done}
+use Rattle.records.specs.Numbers.{reading_number, writing_number}
+use Rattle.records.specs.Reading.{read_list, year_read}
 use Rattle.records.specs.Writing.{records_of, write_answer, written}
-use Rattle.records.specs.declared.Fault.{Fault}
-use Rattle.records.specs.declared.Fault.TheVariants as fault
-use Rattle.records.specs.declared.Reading.{Reading}
-use Rattle.records.specs.declared.Reading.TheVariants as reading
-use Rattle.records.proofs.ListLaws.{list_refused}
+use Rattle.records.specs.declared.Refusal.{Refusal}
+use Rattle.records.proofs.GatherLaws.{is_refused}
 
 -- ---- the lent buffer
 
@@ -50,27 +48,7 @@ wrote y b = go (is_sound y) (leb (length (records_of y)) (length b)) refl refl
 
 -- ---- readings
 
--- a refused reading hands back the year of one term, all bounds 0, no course
-pub read_refused : (s : List ℕ) → (reading_number (read_list s).answer ≡ 0 → ⊥) → (read_list s).year ≡ empty_year
-read_refused s n = go (read_list s).answer refl
-  where
-    go : (a : Reading) → (read_list s).answer ≡ a → (read_list s).year ≡ empty_year
-    go reading.Done e = absurd (n (ap reading_number e))
-    go (reading.Refused f k) e = ap (λ r. r.year) (list_refused s f k e)
-
-pub fault_has_number : (f : Fault) → fault_number f ≡ 0 → ⊥
-fault_has_number fault.Length z = omega arith
-fault_has_number fault.Letter z = omega arith
-fault_has_number fault.Number z = omega arith
-fault_has_number fault.Size z = omega arith
-fault_has_number fault.Order z = omega arith
-fault_has_number fault.List z = omega arith
-fault_has_number fault.Padding z = omega arith
-
--- a list that reads is one whose number is 0
-pub read_done : (s : List ℕ) → reading_number (read_list s).answer ≡ 0 → read_list s ≡ done (read_list s).year
-read_done s e = go (read_list s).answer refl e
-  where
-    go : (a : Reading) → (read_list s).answer ≡ a → reading_number a ≡ 0 → read_list s ≡ done (read_list s).year
-    go reading.Done p z = λ i. record { answer = p i; year = (read_list s).year }
-    go (reading.Refused f k) p z = absurd (fault_has_number f z)
+-- a refused reading hands out no year, and for it stands the year of one term, all bounds 0, no course
+pub read_refused : (s : List ℕ) → (reading_number (read_list s) ≡ 0 → ⊥)
+    → (year_read (read_list s) ≡ empty_year) × (r : Refusal) × (read_list s ≡ Err r)
+read_refused s n = let r = is_refused (read_list s) n in (ap year_read r.1, r.0, r.1)

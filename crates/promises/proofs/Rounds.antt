@@ -13,7 +13,11 @@ use Rattle.year.specs.declared.Year.{Year}
 use Rattle.year.proofs.SoundLaws.{sound_to}
 use Rattle.rules.specs.Step.{Step}
 use Rattle.rules.specs.Round.{passes, in_row, passes_of, round}
+use Rattle.rules.specs.RuleNumbers.{rule_number, rule_named}
+use Rattle.rules.specs.declared.Rule.{Rule}
 use Rattle.rules.proofs.Leeway.{leeway, leeway_most}
+use Rattle.rules.proofs.Named.{round_named}
+use Rattle.rules.proofs.RuleNumberLaws.{named_number, number_within, number_named}
 use Rattle.rules.specs.Narrower.{Narrower}
 use Rattle.rules.proofs.Narrows.{narrower_self, narrower_then}
 use Rattle.rules.proofs.Passes.{Pass, Each, or_none, lawful_part, narrows_round, round_quiet, pass_quiet}
@@ -70,6 +74,19 @@ altering_falls s (one_more {n} {z} a r d) =
 pub few_rounds : {y z : Year} {n : ℕ} → Sound y → Altering y n z → suc n ≤ 1025985
 few_rounds {y} {z} s a = omega (arith, altering_falls s a, leeway_most y s)
 
+-- ---- the rule of a no plan
+
+-- the number in a round that finds no plan is that of the rule it names, and of no other rule
+named_by : (z : Year) → ((round z).rule ≡ 0 → ⊥) → (round z).rule ≡ rule_number (rule_named (round z).rule)
+named_by z some = sym (number_named (round z).rule (omega (arith, some)) (round_named z))
+
+only_name : (z : Year) (r : Rule) → (round z).rule ≡ rule_number r → rule_named (round z).rule ≡ r
+only_name z r e = ap rule_named e ∙ named_number r
+
+-- no rule has the number 0
+pub some_rule : (n : ℕ) (r : Rule) → n ≡ rule_number r → n ≡ 0 → ⊥
+some_rule n r e z = omega (arith, (number_within r).0)
+
 -- ---- filtering is such a chain
 
 -- one round: it ends the filtering, or what follows it is the rest
@@ -82,7 +99,7 @@ one_round y z n t a few rest = go (eqb (round z).rule 0) (round z).altered refl 
     plus = omega arith
 
     go : (b c : Bool) → eqb (round z).rule 0 ≡ b → (round z).altered ≡ c → Filtering y (rounds_from (rounds_left n) y z n)
-    go false c e g = rw (round_no_plan y z n few e, plus) (record { rounds_before_last = n; reached = z; altering = a; ends = finds_no_plan (eqb-false (round z).rule 0 e) })
+    go false c e g = rw (round_no_plan y z n few e, plus) (record { rounds_before_last = n; reached = z; altering = a; ends = finds_no_plan (rule_named (round z).rule) (named_by z (eqb-false (round z).rule 0 e)) })
     go true false e g =
         let q = (round_quiet z t).0 g in
         rw (round_at_rest y z n few e g, plus, q) (record { rounds_before_last = n; reached = z; altering = a; ends = comes_to_rest (eqb-true (round z).rule 0 e) q })
@@ -112,9 +129,11 @@ module _ {y : Year} (s : Sound y) where
       ∙ ap (λ k. rounds_from (rounds_left k) y (round z).year k) plus
 
   end_from : {z : Year} {n : ℕ} {r : Filtered} → Altering y n z → Ends y n z r → rounds_from (rounds_left n) y z n ≡ r
-  end_from {z} {n} a (finds_no_plan e) =
+  end_from {z} {n} a (finds_no_plan r e) =
       let plus : n + 1 ≡ suc n = omega arith in
-      round_no_plan y z n (omega (arith, few_rounds s a)) (ne_eqb (round z).rule 0 e) ∙ ap (λ k. filtered (NoPlan (round z).rule k) y) plus
+      round_no_plan y z n (omega (arith, few_rounds s a)) (ne_eqb (round z).rule 0 (some_rule (round z).rule r e))
+      ∙ ap (λ k. filtered (NoPlan (rule_named (round z).rule) k) y) plus
+      ∙ ap (λ q. filtered (NoPlan q (suc n)) y) (only_name z r e)
   end_from {z} {n} a (comes_to_rest e q) =
       let plus : n + 1 ≡ suc n = omega arith in
       round_at_rest y z n (omega (arith, few_rounds s a)) (eq-eqb (round z).rule 0 e) ((round_quiet z (altering_narrower s a).sound).1 q)
@@ -137,7 +156,7 @@ pub rest_rounds : (z : Year) (n : ℕ) → filter_rounds (at_rest z n) ≡ n
 rest_rounds z n = choose_case (λ a. filter_rounds a ≡ n) (all_placed z) (Settled n) (Open n) (λ e. refl) (λ e. refl)
 
 ends_rested : {y z : Year} {n : ℕ} {r : Filtered} → Sound z → Ends y n z r → filter_number r.answer ≡ 0 → Rested r
-ends_rested s (finds_no_plan e) q = absurd (omega arith)
+ends_rested s (finds_no_plan r e) q = absurd (omega arith)
 ends_rested {y} {z} {n} s (comes_to_rest e q) d = record {
   answer_stands = ap (at_rest z) (sym (rest_rounds z (suc n)));
   filtered_again = sym (no_other s (filtered (at_rest z 1) z) (record { rounds_before_last = 0; reached = z; altering = none; ends = comes_to_rest e q }));

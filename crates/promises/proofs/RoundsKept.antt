@@ -10,13 +10,14 @@ use Rattle.year.specs.Sound.{is_sound, Sound}
 use Rattle.year.specs.Sums.{all_placed}
 use Rattle.year.specs.declared.Year.{Year}
 use Rattle.year.proofs.SoundLaws.{sound_of}
+use Rattle.rules.specs.Round.{round}
 use Rattle.rules.proofs.Passes.{round_kept}
 use Rattle.filter.specs.Filter.{filtered, at_rest, filter_of}
 use Rattle.filter.specs.Numbers.{filter_number}
 use Rattle.filter.specs.declared.Answer.TheVariants.{Settled, Open, Unsound}
 use Rattle.filter.specs.declared.Filtered.{Filtered}
 use Rattle.promises.specs.Rounds.{Altering, none, one_more, Ends, finds_no_plan, comes_to_rest}
-use Rattle.promises.proofs.Rounds.{altering_narrower, filter_runs}
+use Rattle.promises.proofs.Rounds.{altering_narrower, some_rule, filter_runs}
 
 -- the year handed back has the plans of the year given; a no plan (13) says that there is none; a refusal hands back the year given
 pub record FilterKept (y : Year) (r : Filtered) : Type 0 where
@@ -36,9 +37,9 @@ rest_number : (z : Year) (n : ℕ) → filter_number (at_rest z n) ≡ 0
 rest_number z n = choose_case (λ a. filter_number a ≡ 0) (all_placed z) (Settled n) (Open n) (λ e. refl) (λ e. refl)
 
 ends_kept : {y z : Year} {n : ℕ} {r : Filtered} → Sound y → Altering y n z → Ends y n z r → FilterKept y r
-ends_kept {y} {z} s a (finds_no_plan e) = record {
+ends_kept {y} {z} s a (finds_no_plan r e) = record {
   plans = λ p. (λ h. h, λ h. h);
-  no_plan = λ q p h. (round_kept z (altering_narrower s a).sound).no_plan e p ((altering_plans s a p).1 h);
+  no_plan = λ q p h. (round_kept z (altering_narrower s a).sound).no_plan (some_rule (round z).rule r e) p ((altering_plans s a p).1 h);
   refused = λ q. refl;
 }
 ends_kept {y} {z} {n} s a (comes_to_rest e q) =

@@ -18,10 +18,11 @@ use Rattle.year.specs.Sound.{is_sound, Sound}
 use Rattle.year.proofs.SoundLaws.{sound_of}
 use Rattle.year.specs.declared.Year.{Year}
 use Rattle.records.specs.Numbers.{writing_number}
-use Rattle.records.specs.Reading.{read_list}
+use Rattle.records.specs.Reading.{read_list, year_read}
 use Rattle.records.specs.Writing.{records_of, write_answer, written}
 use Rattle.filter.specs.Filter.{filter_of}
 use Rattle.filter.specs.Numbers.{is_settled}
+use Rattle.records.proofs.GatherLaws.{is_done}
 use Rattle.records.proofs.ListLaws.{read_sound}
 use Rattle.records.proofs.WriteRead.{write_read}
 use Rattle.filter.proofs.RoundLaws.{filter_narrower}
@@ -32,7 +33,7 @@ use Rattle.promises.specs.Sequence.{Origin, value, records, hours, start, Call, 
 use Rattle.promises.proofs.Narrowings.{each_narrowing, narrow_narrower}
 use Rattle.promises.proofs.RoundsKept.{filter_kept}
 use Rattle.promises.proofs.SettledPlan.{settled_one}
-use Rattle.promises.proofs.RoundTrip.{read_done, wrote}
+use Rattle.promises.proofs.RoundTrip.{wrote}
 use Rattle.promises.proofs.JoinedYear.{joined_sound}
 
 -- ---- one call
@@ -47,8 +48,8 @@ meets_same first y (tighten s q j v) p a =
 -- what was written reads back to the same year
 read_back_lem : (y : Year) (b : List ℕ) → Sound y → read_back y b ≡ y
 read_back_lem y b s =
-    choose_case (λ z. z ≡ y) (eqb (writing_number (write_answer y (length b))) 0) (read_list (take (length (records_of y)) (written y b))).year y
-    (λ e. ap (λ l. (read_list l).year) ((wrote y b).front (eqb-true (writing_number (write_answer y (length b))) 0 e)) ∙ ap (λ r. r.year) (write_read y s))
+    choose_case (λ z. z ≡ y) (eqb (writing_number (write_answer y (length b))) 0) (year_read (read_list (take (length (records_of y)) (written y b)))) y
+    (λ e. ap (λ l. year_read (read_list l)) ((wrote y b).front (eqb-true (writing_number (write_answer y (length b))) 0 e)) ∙ ap year_read (write_read y s))
     (λ e. refl)
 
 -- what is shown of a call on a year y that is the first or narrower
@@ -99,7 +100,7 @@ start_sound (value y) e = go (is_sound y) refl e
     go : (b : Bool) → is_sound y ≡ b → ◌≡◌ {A = ℕ} (choose b 0 8) 0 → Sound y
     go true p z = sound_of y p
     go false p z = absurd (omega arith)
-start_sound (records s) e = read_sound s (read_list s).year (read_done s e)
+start_sound (records s) e = read_sound s (year_read (read_list s)) (is_done (read_list s) e)
 start_sound (hours t h) e = joined_sound t h e
 
 module _ (first : Year) (calls : List Call) (s : Sound first) where

@@ -34,19 +34,19 @@ module _ {y z : Year} {n : ℕ} (s : Sound y) (a : Altering y n z) where
   sound_last = (altering_narrower s a).sound
 
   ends_settled : (p : Placing) → PlacedBy y p → {r : Filtered} → Ends y n z r → (filter_number r.answer ≡ 13 → ⊥) → is_settled r.answer ≡ true
-  ends_settled p h (finds_no_plan e) d = absurd (d refl)
+  ends_settled p h (finds_no_plan r e) d = absurd (d refl)
   ends_settled p h (comes_to_rest e g) d = rw (all_placed_lem z p sound_last (placed_stays y p z (altering_narrower s a) h))
 
   settled_placed : (k : ℕ) → is_settled (at_rest z k) ≡ true → all_placed z ≡ true
   settled_placed k = choose_case (λ b. is_settled b ≡ true → all_placed z ≡ true) (all_placed z) (Settled k) (Open k) (λ e q. e) (λ e q. absurd (true≢false (sym q)))
 
   ends_placed : {r : Filtered} → Ends y n z r → is_settled r.answer ≡ true → all_placed r.year ≡ true
-  ends_placed (finds_no_plan e) q = absurd (true≢false (sym q))
+  ends_placed (finds_no_plan r e) q = absurd (true≢false (sym q))
   ends_placed (comes_to_rest e g) q = settled_placed (suc n) q
 
   -- a year at rest in which every course has one term: that placing is a plan
   ends_plan : (p : Placing) {r : Filtered} → Ends y n z r → is_settled r.answer ≡ true → PlacedBy r.year p → Plan r.year p
-  ends_plan p (finds_no_plan e) q h = absurd (true≢false (sym q))
+  ends_plan p (finds_no_plan r e) q h = absurd (true≢false (sym q))
   ends_plan p (comes_to_rest e g) q h = rest_plan z p sound_last h e g
 
 -- settled: the placing that the filtered year leaves is a plan, and every plan is that placing

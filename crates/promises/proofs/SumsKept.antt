@@ -7,6 +7,7 @@ use mathlib.Core.Path.{◌≡◌, refl, sym, subst}
 use native.Mathlib.Omega.{arith}
 use lib.Dec.{eqb}
 use lib.ListN.{length, take}
+use Rattle.std.specs.Prelude.{Result, Ok, Err}
 use Rattle.theory.proofs.ChoiceLaws.{choose_any}
 use Rattle.year.specs.Doors.{empty_year}
 use Rattle.year.specs.Computing.{computing}
@@ -15,12 +16,10 @@ use Rattle.year.specs.Sound.{is_sound}
 use Rattle.year.specs.declared.Year.{Year}
 use Rattle.year.proofs.SoundLaws.{sound_of}
 use Rattle.records.specs.Numbers.{writing_number}
-use Rattle.records.specs.Reading.{read_list}
+use Rattle.records.specs.Reading.{summed, read_list, year_read}
 use Rattle.records.specs.Writing.{records_of, write_answer, written}
-use Rattle.records.specs.declared.Reading.{Reading}
-use Rattle.records.specs.declared.Reading.TheVariants as reading
-use Rattle.hours.specs.Joining.{term_list, hours_list, behind_terms, join_of}
-use Rattle.hours.proofs.JoinLaws.{terms_refused}
+use Rattle.records.specs.declared.Refusal.{Refusal}
+use Rattle.hours.specs.Joining.{term_list, hours_list, in_hours, behind_terms, join_of, year_joined}
 use Rattle.filter.specs.Filter.{filter_of}
 use Rattle.filter.proofs.RoundLaws.{filter_narrower}
 use Rattle.promises.specs.Narrowings.{Narrow, narrow}
@@ -34,21 +33,26 @@ empty : Carries empty_year
 unfolding computing
 empty = refl
 
-imported : (s : List ℕ) → Carries (read_list s).year
-unfolding read_list sums_at fixed_credits open_credits fixed_count open_count
-imported s = refl
+summed_carry : (r : Result Year Refusal) → Carries (year_read (summed r))
+unfolding sums_at fixed_credits open_credits fixed_count open_count
+summed_carry (Ok y) = refl
+summed_carry (Err q) = empty
 
-hours_carry : (y : Year) (s : List ℕ) → Carries (hours_list y s).year
-unfolding hours_list sums_at fixed_credits open_credits fixed_count open_count
-hours_carry y s = refl
+imported : (s : List ℕ) → Carries (year_read (read_list s))
+unfolding read_list
+imported s = summed_carry _
 
-joined : (t h : List ℕ) → Carries (join_of t h).year
-unfolding join_of
-joined t h = go (term_list t).answer refl
+joined : (t h : List ℕ) → Carries (year_joined (join_of t h))
+unfolding join_of hours_list
+joined t h = go (term_list t)
   where
-    go : (a : Reading) → (term_list t).answer ≡ a → Carries (behind_terms (term_list t) a h).year
-    go reading.Done e = hours_carry (term_list t).year h
-    go (reading.Refused f k) e = subst Carries (sym (terms_refused t f k e).0) empty
+    under : (r : Result Year Refusal) → Carries (year_read r) → Carries (year_joined (in_hours r))
+    under (Ok y) c = c
+    under (Err q) c = c
+
+    go : (r : Result Year Refusal) → Carries (year_joined (behind_terms r h))
+    go (Ok y) = under (hours_list y h) (summed_carry _)
+    go (Err q) = empty
 
 -- ---- calls
 
@@ -73,7 +77,7 @@ module _ (y : Year) (c : Carries y) where
   called (narrow_by n) = narrowed n
   called filter = filtered
   called (write_and_read b) =
-      choose_any Carries (eqb (writing_number (write_answer y (length b))) 0) (read_list (take (length (records_of y)) (written y b))).year y
+      choose_any Carries (eqb (writing_number (write_answer y (length b))) 0) (year_read (read_list (take (length (records_of y)) (written y b)))) y
       (imported (take (length (records_of y)) (written y b))) c
 
 kept : (cs : List Call) (y : Year) → Carries y → Carries (after cs y)

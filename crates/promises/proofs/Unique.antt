@@ -16,6 +16,7 @@ one_result = record {
   summed = λ κs. by_one _;
   course = λ κs. by_one _;
   is_sound = λ κs. by_one _;
+  year_is_sound = λ κs. by_one _;
   place = λ κs. by_one _;
   bar = λ κs. by_one _;
   raise_low_credits = λ κs. by_one _;
@@ -27,6 +28,7 @@ one_result = record {
   fault_number = λ κs. record { asks_nothing = λ a. tt; one_end = λ a r s e f p q. p.0 ∙ sym q.0 };
   write = λ κs. by_two _ _ _;
   join = λ κs. by_one _;
+  rule_number = λ κs. by_one _;
   filter = λ κs. by_one _;
   turfsteeple_read = λ κs. by_one _;
   turfsteeple_filter = λ κs. by_two _ _ _;

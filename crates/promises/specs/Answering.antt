@@ -5,6 +5,7 @@ use Rattle.year.proofs.Year.by_hand.Statement as by-hand-call
 use Rattle.year.proofs.Year.summed.Statement as summed-call
 use Rattle.year.proofs.Year.course.Statement as course-call
 use Rattle.year.proofs.sound.is_sound.Statement as is-sound-call
+use Rattle.year.proofs.Year.is_sound.Statement as year-is-sound-call
 use Rattle.year.proofs.Year.place.Statement as place-call
 use Rattle.year.proofs.Year.bar.Statement as bar-call
 use Rattle.year.proofs.Year.raise_low_credits.Statement as raise-low-credits-call
@@ -16,6 +17,7 @@ use Rattle.records.proofs.read.Statement as read-call
 use Rattle.records.proofs.fault_number.Statement as fault-number-call
 use Rattle.records.proofs.write.Statement as write-call
 use Rattle.hours.proofs.join.Statement as join-call
+use Rattle.rules.proofs.Rule.number.Statement as rule-number-call
 use Rattle.filter.proofs.filter.Statement as filter-call
 use Rattle.boundary.proofs.turfsteeple_read.Statement as turfsteeple-read-call
 use Rattle.boundary.proofs.turfsteeple_filter.Statement as turfsteeple-filter-call
@@ -32,6 +34,7 @@ pub record EachAnswers (M : Type 1) : Type 2 where
   pub summed : summed-call.statement M
   pub course : course-call.statement M
   pub is_sound : is-sound-call.statement M
+  pub year_is_sound : year-is-sound-call.statement M
   pub place : place-call.statement M
   pub bar : bar-call.statement M
   pub raise_low_credits : raise-low-credits-call.statement M
@@ -43,6 +46,7 @@ pub record EachAnswers (M : Type 1) : Type 2 where
   pub fault_number : fault-number-call.statement M
   pub write : write-call.statement M
   pub join : join-call.statement M
+  pub rule_number : rule-number-call.statement M
   pub filter : filter-call.statement M
   pub turfsteeple_read : turfsteeple-read-call.statement M
   pub turfsteeple_filter : turfsteeple-filter-call.statement M

@@ -1,5 +1,5 @@
 -- The three demands that stand over everything, each as one statement.
-use Rattle.std.specs.Prelude.{ℕ, ◌+◌, ◌*◌, ◌≤◌, ◌<◌, true, List, ◌↔◌, ◌≡◌, length, take, drop}
+use Rattle.std.specs.Prelude.{ℕ, ◌+◌, ◌*◌, ◌≤◌, ◌<◌, true, List, Err, ◌↔◌, ◌≡◌, length, take, drop}
 use Rattle.year.specs.Doors.{empty_year}
 use Rattle.year.specs.Plans.{Placing, Plan, the_placing}
 use Rattle.year.specs.Sound.{Sound}
@@ -8,10 +8,12 @@ use Rattle.year.specs.Numbers.{narrowing_number}
 use Rattle.year.specs.declared.Year.{Year}
 use Rattle.records.specs.Bytes.{AllBytes}
 use Rattle.records.specs.Numbers.{reading_number, writing_number}
-use Rattle.records.specs.Reading.{read_list, done}
+use Rattle.records.specs.Reading.{read_list, year_read, done}
 use Rattle.records.specs.Writing.{records_of, write_answer, written}
+use Rattle.records.specs.declared.Refusal.{Refusal}
 use Rattle.hours.specs.Numbers.{joining_number}
-use Rattle.hours.specs.Joining.{join_of}
+use Rattle.hours.specs.Joining.{join_of, year_joined}
+use Rattle.hours.specs.declared.JoiningRefusal.{JoiningRefusal}
 use Rattle.rules.specs.Narrower.{Narrower}
 use Rattle.filter.specs.Filter.{filter_of}
 use Rattle.filter.specs.Numbers.{filter_number, filter_rounds, is_settled}
@@ -44,9 +46,11 @@ pub record Demand1 : Type 0 where
   pub imbalance_due : ImbalanceDue
   pub listing_due : ListingDue
   pub codes_due : CodesDue
-  -- handed back unaltered, and nothing written
-  pub refused_reading : (bytes : List ℕ) → (reading_number (read_list bytes).answer ≡ 0 → ⊥) → (read_list bytes).year ≡ empty_year
-  pub refused_joining : (t h : List ℕ) → (joining_number (join_of t h).answer ≡ 0 → ⊥) → (join_of t h).year ≡ empty_year
+  -- handed back unaltered, and nothing written; a refused list gives a refusal, which holds no year (the empty one stands for it)
+  pub refused_reading : (bytes : List ℕ) → (reading_number (read_list bytes) ≡ 0 → ⊥)
+      → (year_read (read_list bytes) ≡ empty_year) × (r : Refusal) × (read_list bytes ≡ Err r)
+  pub refused_joining : (t h : List ℕ) → (joining_number (join_of t h) ≡ 0 → ⊥)
+      → (year_joined (join_of t h) ≡ empty_year) × (r : JoiningRefusal) × (join_of t h ≡ Err r)
   pub refused_narrowing : (n : Narrow) (y : Year) → (narrowing_number (narrow n y).answer ≡ 0 → ⊥) → (narrow n y).year ≡ y
   pub refused_filtering : (y : Year) → (filter_number (filter_of y).answer ≡ 0 → ⊥) → (filter_of y).year ≡ y
   pub refused_writing : (y : Year) (buffer : List ℕ) → (writing_number (write_answer y (length buffer)) ≡ 0 → ⊥) → written y buffer ≡ buffer
@@ -69,10 +73,10 @@ pub record Demand2 : Type 0 where
   pub sixteen_a_record : (y : Year) → length (records_of y) ≡ (y.terms + y.courses) * 16
   pub records_read : (y : Year) → Sound y → read_list (records_of y) ≡ done y
   pub records_fit : (y : Year) → Sound y → length (records_of y) ≤ 1280
-  pub read_is_sound : (bytes : List ℕ) → reading_number (read_list bytes).answer ≡ 0 → Sound (read_list bytes).year
-  pub joined_is_sound : (t h : List ℕ) → joining_number (join_of t h).answer ≡ 0 → Sound (join_of t h).year
-  pub read_then_write : (bytes : List ℕ) → AllBytes bytes → reading_number (read_list bytes).answer ≡ 0
-      → records_of (read_list bytes).year ≡ bytes
+  pub read_is_sound : (bytes : List ℕ) → reading_number (read_list bytes) ≡ 0 → Sound (year_read (read_list bytes))
+  pub joined_is_sound : (t h : List ℕ) → joining_number (join_of t h) ≡ 0 → Sound (year_joined (join_of t h))
+  pub read_then_write : (bytes : List ℕ) → AllBytes bytes → reading_number (read_list bytes) ≡ 0
+      → records_of (year_read (read_list bytes)) ≡ bytes
 
 -- ---- 3
 

@@ -6,11 +6,11 @@ use Rattle.year.specs.Sound.{Sound}
 use Rattle.year.specs.declared.Year.{Year}
 use Rattle.records.specs.Bytes.{AllBytes}
 use Rattle.records.specs.Numbers.{reading_number, reading_place}
-use Rattle.records.specs.Reading.{read_list, done}
+use Rattle.records.specs.Reading.{read_list, year_read, done}
 use Rattle.records.specs.Writing.{records_of}
 use Rattle.hours.specs.Numbers.{joining_number, joining_list, joining_place, edition_number}
 use Rattle.hours.specs.Entries.{weight_by}
-use Rattle.hours.specs.Joining.{join_of}
+use Rattle.hours.specs.Joining.{join_of, year_joined}
 use Rattle.hours.specs.declared.Edition.{Edition}
 use Rattle.hours.specs.declared.Edition.TheVariants.{First, Second}
 use Rattle.promises.specs.Refusals.{T, C, byte_of, word_of, BadLength, Wrong, FirstWrong}
@@ -21,13 +21,13 @@ H = 72
 
 -- what the joining of a terms' list and an hours list answers: the list at fault (1 the terms', 2 the hours list), the number, the place
 abbrev pub list : List ℕ → List ℕ → ℕ
-list t h = joining_list (join_of t h).answer
+list t h = joining_list (join_of t h)
 
 abbrev pub number : List ℕ → List ℕ → ℕ
-number t h = joining_number (join_of t h).answer
+number t h = joining_number (join_of t h)
 
 abbrev pub place : List ℕ → List ℕ → ℕ
-place t h = joining_place (join_of t h).answer
+place t h = joining_place (join_of t h)
 
 abbrev pub Answers : List ℕ → List ℕ → ℕ → ℕ → ℕ → Type 0
 Answers t h l n k = (list t h ≡ l) × (number t h ≡ n) × (place t h ≡ k)
@@ -112,13 +112,13 @@ NoCourse s = (k : ℕ) → k < length s / 16 → byte_of s k 0 ≡ C → ⊥
 
 -- joined with an empty list, s is answered as reading it is: the number, the place and the year; what is refused is s
 pub record AsReading (s : List ℕ) : Type 0 where
-  pub same_number : number s [] ≡ reading_number (read_list s).answer
-  pub same_place : place s [] ≡ reading_place (read_list s).answer
-  pub same_year : (join_of s []).year ≡ (read_list s).year
+  pub same_number : number s [] ≡ reading_number (read_list s)
+  pub same_place : place s [] ≡ reading_place (read_list s)
+  pub same_year : year_joined (join_of s []) ≡ year_read (read_list s)
   pub in_terms : (number s [] ≡ 0 → ⊥) → list s [] ≡ 1
 
 pub record HoursMean : Type 0 where
-  pub joined_year : (t h : List ℕ) → number t h ≡ 0 → JoinedYear t h (join_of t h).year
+  pub joined_year : (t h : List ℕ) → number t h ≡ 0 → JoinedYear t h (year_joined (join_of t h))
   pub empty_as_reading : (s : List ℕ) → NoCourse s → AsReading s
   -- for the same hours the editions' weights differ by 1 exactly when the laboratory hours are odd, and are equal otherwise
   pub differ_by_1 : (lecture laboratory : ℕ)

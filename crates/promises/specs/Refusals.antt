@@ -89,10 +89,10 @@ FirstWrongOf s = FirstWrong (BadLength (length s)) (length s / 16) (Wrong s)
 -- ---- reading goes by them
 
 abbrev pub number : List ℕ → ℕ
-number s = reading_number (read_list s).answer
+number s = reading_number (read_list s)
 
 abbrev pub place : List ℕ → ℕ
-place s = reading_place (read_list s).answer
+place s = reading_place (read_list s)
 
 pub record ReadingDue : Type 0 where
   -- 1, with the place 0, exactly for a bad length

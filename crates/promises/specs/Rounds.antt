@@ -5,6 +5,8 @@ use Rattle.year.specs.declared.Year.{Year}
 use Rattle.rules.specs.Step.{Step}
 use Rattle.rules.specs.Round.{in_row, passes_of, round}
 use Rattle.rules.specs.Narrower.{Narrower}
+use Rattle.rules.specs.RuleNumbers.{rule_number}
+use Rattle.rules.specs.declared.Rule.{Rule}
 use Rattle.filter.specs.Filter.{filtered, at_rest, filter_of}
 use Rattle.filter.specs.Numbers.{filter_rounds}
 use Rattle.filter.specs.declared.Answer.TheVariants.{NoPlan}
@@ -17,10 +19,10 @@ pub data Altering (y : Year) : ℕ → Year → Type 0 where
   none : Altering y 0 y
   one_more : {n : ℕ} {z : Year} → Altering y n z → (round z).rule ≡ 0 → ((round z).year ≡ z → ⊥) → Altering y (suc n) (round z).year
 
--- how a filtering of y ends, in the round after n altering ones, which left z: that round finds no plan and y is handed back, as it was
--- given; or it leaves z as it is, and z is handed back. Either way that round is counted
+-- how a filtering of y ends, in the round after n altering ones, which left z: in that round the rule that is named finds no plan and y is
+-- handed back, as it was given; or it leaves z as it is, and z is handed back. Either way that round is counted
 pub data Ends (y : Year) (n : ℕ) (z : Year) : Filtered → Type 0 where
-  finds_no_plan : ((round z).rule ≡ 0 → ⊥) → Ends y n z (filtered (NoPlan (round z).rule (suc n)) y)
+  finds_no_plan : (r : Rule) → (round z).rule ≡ rule_number r → Ends y n z (filtered (NoPlan r (suc n)) y)
   comes_to_rest : (round z).rule ≡ 0 → (round z).year ≡ z → Ends y n z (filtered (at_rest z (suc n)) z)
 
 -- r is what rounds in a row give for y

@@ -7,10 +7,10 @@ use Rattle.year.specs.Plans.{Placing, Plan}
 use Rattle.year.specs.Sound.{is_sound}
 use Rattle.year.specs.declared.Year.{Year}
 use Rattle.records.specs.Numbers.{reading_number, writing_number}
-use Rattle.records.specs.Reading.{read_list}
+use Rattle.records.specs.Reading.{read_list, year_read}
 use Rattle.records.specs.Writing.{records_of, write_answer, written}
 use Rattle.hours.specs.Numbers.{joining_number}
-use Rattle.hours.specs.Joining.{join_of}
+use Rattle.hours.specs.Joining.{join_of, year_joined}
 use Rattle.filter.specs.Filter.{filter_of}
 use Rattle.filter.specs.Numbers.{filter_number}
 use Rattle.promises.specs.Narrowings.{Narrow, narrow, Meets}
@@ -31,8 +31,8 @@ pub data Origin : Type 0 where
 -- the year, and the number with which it comes: a value that is not sound is 8
 abbrev pub start : Origin → Result
 start (value y) = record { number = choose (is_sound y) 0 8; year = y }
-start (records s) = record { number = reading_number (read_list s).answer; year = (read_list s).year }
-start (hours t h) = record { number = joining_number (join_of t h).answer; year = (join_of t h).year }
+start (records s) = record { number = reading_number (read_list s); year = year_read (read_list s) }
+start (hours t h) = record { number = joining_number (join_of t h); year = year_joined (join_of t h) }
 
 -- ---- calls
 
@@ -45,7 +45,8 @@ pub data Call : Type 0 where
 -- the year that is read from the front of the buffer, or the year itself where nothing was written
 abbrev pub read_back : Year → List ℕ → Year
 read_back y buffer =
-    choose (eqb (writing_number (write_answer y (length buffer))) 0) (read_list (take (length (records_of y)) (written y buffer))).year y
+    choose (eqb (writing_number (write_answer y (length buffer))) 0)
+    (year_read (read_list (take (length (records_of y)) (written y buffer)))) y
 
 abbrev pub result : Call → Year → Result
 result (narrow_by n) y = record { number = narrowing_number (narrow n y).answer; year = (narrow n y).year }

@@ -41,7 +41,7 @@ list_of_weight a b =
     ++ 67 ∷ 0 ∷ a ∷ b ∷ 0 ∷ 1 ∷ replicate 10 0
 
 abbrev pub number_of_weight : ℕ → ℕ → ℕ
-number_of_weight a b = reading_number (read_list (list_of_weight a b)).answer
+number_of_weight a b = reading_number (read_list (list_of_weight a b))
 
 -- ---- the years of rows 11 and 12
 

@@ -8,6 +8,7 @@ use Rattle.year.proofs.Year.by_hand.Reads as by-hand-call
 use Rattle.year.proofs.Year.summed.Reads as summed-call
 use Rattle.year.proofs.Year.course.Reads as course-call
 use Rattle.year.proofs.sound.is_sound.Reads as is-sound-call
+use Rattle.year.proofs.Year.is_sound.Reads as year-is-sound-call
 use Rattle.year.proofs.Year.place.Reads as place-call
 use Rattle.year.proofs.Year.bar.Reads as bar-call
 use Rattle.year.proofs.Year.raise_low_credits.Reads as raise-low-credits-call
@@ -19,6 +20,7 @@ use Rattle.records.proofs.read.Reads as read-call
 use Rattle.records.proofs.fault_number.Reads as fault-number-call
 use Rattle.records.proofs.write.Reads as write-call
 use Rattle.hours.proofs.join.Reads as join-call
+use Rattle.rules.proofs.Rule.number.Reads as rule-number-call
 use Rattle.filter.proofs.filter.Reads as filter-call
 use Rattle.boundary.proofs.turfsteeple_read.Reads as turfsteeple-read-call
 use Rattle.boundary.proofs.turfsteeple_filter.Reads as turfsteeple-filter-call
@@ -62,6 +64,7 @@ pub record OneResult : Type 0 where
   pub summed : (κs : Lfts 0) → One (summed-call.Pre κs) (summed-call.Post κs) result
   pub course : (κs : Lfts 0) → One (course-call.Pre κs) (course-call.Post κs) result
   pub is_sound : (κs : Lfts 0) → One (is-sound-call.Pre κs) (is-sound-call.Post κs) result
+  pub year_is_sound : (κs : Lfts 1) → One (year-is-sound-call.Pre κs) (year-is-sound-call.Post κs) result
   pub place : (κs : Lfts 0) → One (place-call.Pre κs) (place-call.Post κs) result
   pub bar : (κs : Lfts 0) → One (bar-call.Pre κs) (bar-call.Post κs) result
   pub raise_low_credits : (κs : Lfts 0) → One (raise-low-credits-call.Pre κs) (raise-low-credits-call.Post κs) result
@@ -73,6 +76,7 @@ pub record OneResult : Type 0 where
   pub fault_number : (κs : Lfts 0) → One (fault-number-call.Pre κs) (fault-number-call.Post κs) result
   pub write : (κs : Lfts 1) → One (write-call.Pre κs) (write-call.Post κs) and_second
   pub join : (κs : Lfts 2) → One (join-call.Pre κs) (join-call.Post κs) result
+  pub rule_number : (κs : Lfts 0) → One (rule-number-call.Pre κs) (rule-number-call.Post κs) result
   pub filter : (κs : Lfts 0) → One (filter-call.Pre κs) (filter-call.Post κs) result
   pub turfsteeple_read : (κs : Lfts 1) → One (turfsteeple-read-call.Pre κs) (turfsteeple-read-call.Post κs) result
   pub turfsteeple_filter : (κs : Lfts 2) → One (turfsteeple-filter-call.Pre κs) (turfsteeple-filter-call.Post κs) and_second

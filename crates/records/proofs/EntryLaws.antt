@@ -7,7 +7,7 @@ use native.Mathlib.Omega.{arith}
 use native.Mathlib.Nat.{div-lt_iff_lt-mul, one-mul}
 use lib.Dec.{eqb, leb, ltb}
 use lib.Pow.{pow_pos}
-use borrow.Author.Tests.{ltb-true, ltb-false, leb-true, eqb-true, eqb-false, not-false}
+use borrow.Author.Tests.{ltb-true, ltb-false, leb-true, le-leb, eqb-true, eqb-false, not-false}
 use Rattle.theory.specs.Choice.{choose}
 use Rattle.theory.proofs.TestLaws.{and_true, or_false}
 use Rattle.year.specs.Year.{term_of, course_of}
@@ -15,10 +15,8 @@ use Rattle.year.specs.Sound.{TermSound, CourseSound}
 use Rattle.year.specs.declared.Term.{Term}
 use Rattle.year.specs.declared.Course.{Course}
 use Rattle.records.specs.declared.Fault.TheVariants as fault
-use Rattle.records.specs.declared.AsTerm.{AsTerm}
-use Rattle.records.specs.declared.AsTerm.TheVariants as asTerm
-use Rattle.records.specs.declared.AsCourse.{AsCourse}
-use Rattle.records.specs.declared.AsCourse.TheVariants as asCourse
+use Rattle.std.specs.Prelude.{Result, Ok, Err}
+use Rattle.records.specs.declared.Fault.{Fault}
 use Rattle.records.specs.Bytes.{letter_at, byte_at, word_at, blank_from}
 use Rattle.records.specs.Reading.{OfTerm, OfCourse, Faulty, bears_next, bad_bounds, bad_order, bad_weight, bad_list, term_by_itself, course_by, course_by_itself, term_record, course_record, of_term, of_course, record_at}
 
@@ -68,11 +66,11 @@ bounds_are s at e f =
     let u = or_false (ltb (word_at s at 4) (word_at s at 2)) (ltb (word_at s at 8) (word_at s at 6)) f in
     record { credits_ordered = ltb-false _ _ u.0; credits_most = ltb-false _ _ r.1; count_ordered = ltb-false _ _ u.1; count_most = ltb-false _ _ p.1 }
 
-pub term_held : (s : List ℕ) (at : ℕ) (t : Term) → term_by_itself s at ≡ asTerm.Good t → TermHeld s at t
+pub term_held : (s : List ℕ) (at : ℕ) (t : Term) → term_by_itself s at ≡ Ok t → TermHeld s at t
 unfolding term_by_itself
 term_held s at t e = go (bad_bounds s at) refl (bad_order s at) refl (blank_from s at 10) refl e
   where
-    go : (b : Bool) → bad_bounds s at ≡ b → (d : Bool) → bad_order s at ≡ d → (u : Bool) → blank_from s at 10 ≡ u → choose b (asTerm.Faulty fault.Size) (choose d (asTerm.Faulty fault.Order) (choose u (asTerm.Good (term_in s at)) (asTerm.Faulty fault.Padding))) ≡ asTerm.Good t → TermHeld s at t
+    go : (b : Bool) → bad_bounds s at ≡ b → (d : Bool) → bad_order s at ≡ d → (u : Bool) → blank_from s at 10 ≡ u → choose b (Err fault.Size) (choose d (Err fault.Order) (choose u (Ok (term_in s at)) (Err fault.Padding))) ≡ Ok t → TermHeld s at t
     go true q d r u z e = let x : ◌≡◌ {A = ℕ} 0 1 = cc in absurd (omega arith)
     go false q true r u z e = let x : ◌≡◌ {A = ℕ} 0 1 = cc in absurd (omega arith)
     go false q false r false z e = let x : ◌≡◌ {A = ℕ} 0 1 = cc in absurd (omega arith)
@@ -80,11 +78,11 @@ term_held s at t e = go (bad_bounds s at) refl (bad_order s at) refl (blank_from
         let x : term_in s at ≡ t = cc in
         record { holds = x; sound = bounds_are s at q r; blank = z }
 
-pub term_read : (s : List ℕ) (at next : ℕ) (t : Term) → term_record s at next ≡ asTerm.Good t → TermRead s at next t
+pub term_read : (s : List ℕ) (at next : ℕ) (t : Term) → term_record s at next ≡ Ok t → TermRead s at next t
 unfolding term_record
 term_read s at next t e = go (bears_next s at next 16) refl e
   where
-    go : (a : Bool) → bears_next s at next 16 ≡ a → choose a (term_by_itself s at) (asTerm.Faulty fault.Number) ≡ asTerm.Good t → TermRead s at next t
+    go : (a : Bool) → bears_next s at next 16 ≡ a → choose a (term_by_itself s at) (Err fault.Number) ≡ Ok t → TermRead s at next t
     go true p e = let n = number_is s at next 16 p in record { number = n.0; room = n.1; held = term_held s at t e }
     go false p e = let x : ◌≡◌ {A = ℕ} 0 1 = cc in absurd (omega arith)
 
@@ -110,11 +108,11 @@ parts_are w l terms e f =
     let few : l / 2 ^ terms < 1 = omega arith in
     record { weight_least = ltb-false _ _ p.0; weight_most = ltb-false _ _ p.1; list_some = omega (arith, some); list_within = rw one-mul at ((div-lt_iff_lt-mul (pow_pos terms)).0 few) }
 
-pub course_held : (w l : ℕ) (zeros : Bool) (terms : ℕ) (c : Course) → course_by w l zeros terms ≡ asCourse.Good c → CourseHeld w l zeros terms c
+pub course_held : (w l : ℕ) (zeros : Bool) (terms : ℕ) (c : Course) → course_by w l zeros terms ≡ Ok c → CourseHeld w l zeros terms c
 unfolding course_by
 course_held w l zeros terms c e = go (bad_weight w) refl (bad_list l terms) refl zeros refl e
   where
-    go : (b : Bool) → bad_weight w ≡ b → (d : Bool) → bad_list l terms ≡ d → (u : Bool) → zeros ≡ u → choose b (asCourse.Faulty fault.Size) (choose d (asCourse.Faulty fault.List) (choose u (asCourse.Good (course_of w l)) (asCourse.Faulty fault.Padding))) ≡ asCourse.Good c → CourseHeld w l zeros terms c
+    go : (b : Bool) → bad_weight w ≡ b → (d : Bool) → bad_list l terms ≡ d → (u : Bool) → zeros ≡ u → choose b (Err fault.Size) (choose d (Err fault.List) (choose u (Ok (course_of w l)) (Err fault.Padding))) ≡ Ok c → CourseHeld w l zeros terms c
     go true q d r u z e = let x : ◌≡◌ {A = ℕ} 0 1 = cc in absurd (omega arith)
     go false q true r u z e = let x : ◌≡◌ {A = ℕ} 0 1 = cc in absurd (omega arith)
     go false q false r false z e = let x : ◌≡◌ {A = ℕ} 0 1 = cc in absurd (omega arith)
@@ -122,11 +120,11 @@ course_held w l zeros terms c e = go (bad_weight w) refl (bad_list l terms) refl
         let x : course_of w l ≡ c = cc in
         record { holds = x; sound = parts_are w l terms q r; blank = z }
 
-pub course_read : (s : List ℕ) (at next terms : ℕ) (c : Course) → course_record s at next terms ≡ asCourse.Good c → CourseRead s at next terms c
+pub course_read : (s : List ℕ) (at next terms : ℕ) (c : Course) → course_record s at next terms ≡ Ok c → CourseRead s at next terms c
 unfolding course_record
 course_read s at next terms c e = go (bears_next s at next 64) refl e
   where
-    go : (a : Bool) → bears_next s at next 64 ≡ a → choose a (course_by_itself s at terms) (asCourse.Faulty fault.Number) ≡ asCourse.Good c → CourseRead s at next terms c
+    go : (a : Bool) → bears_next s at next 64 ≡ a → choose a (course_by_itself s at terms) (Err fault.Number) ≡ Ok c → CourseRead s at next terms c
     go true p e =
         let n = number_is s at next 64 p in
         record { number = n.0; room = n.1; held = course_held (word_at s at 2) (word_at s at 4) (blank_from s at 6) terms c e }
@@ -136,36 +134,40 @@ course_read s at next terms c e = go (bears_next s at next 64) refl e
 
 -- by its letter, and by what stands before it
 module _ (s : List ℕ) (at terms courses : ℕ) where
-  pub at_term : (eqb (letter_at s at) 84 && eqb courses 0) ≡ true → record_at s at terms courses ≡ of_term (term_record s at terms)
+  pub at_term : {r : Result Term Fault} → letter_at s at ≡ 84 → courses ≡ 0 → term_record s at terms ≡ r → record_at s at terms courses ≡ of_term r
   unfolding record_at
-  at_term p = rw p refl
+  at_term p q e = rw (p, q, e) refl
 
-  pub at_course : (eqb (letter_at s at) 67 && leb 1 terms) ≡ true → record_at s at terms courses ≡ of_course (course_record s at courses terms)
+  pub at_course : {r : Result Course Fault} → letter_at s at ≡ 67 → 1 ≤ terms → course_record s at courses terms ≡ r → record_at s at terms courses ≡ of_course r
   unfolding record_at
-  at_course p =
-      let q = and_true (eqb (letter_at s at) 67) (leb 1 terms) p in
-      rw (eqb-true (letter_at s at) 67 q.0, q.1) refl
+  at_course p q e = rw (p, le-leb 1 terms q, e) refl
 
-  pub at_neither : (eqb (letter_at s at) 84 && eqb courses 0) ≡ false → (eqb (letter_at s at) 67 && leb 1 terms) ≡ false → record_at s at terms courses ≡ Faulty fault.Letter
+  pub at_neither : (letter_at s at ≡ 84 → courses ≡ 0 → ⊥) → (letter_at s at ≡ 67 → 1 ≤ terms → ⊥) → record_at s at terms courses ≡ Faulty fault.Letter
   unfolding record_at
-  at_neither p q = rw (p, q) refl
+  at_neither n m = go (eqb (letter_at s at) 84 && eqb courses 0) refl (eqb (letter_at s at) 67 && leb 1 terms) refl
+    where
+      go : (a : Bool) → (eqb (letter_at s at) 84 && eqb courses 0) ≡ a → (b : Bool) → (eqb (letter_at s at) 67 && leb 1 terms) ≡ b
+          → choose a (of_term (term_record s at terms)) (choose b (of_course (course_record s at courses terms)) (Faulty fault.Letter)) ≡ Faulty fault.Letter
+      go true p b q = let r = and_true _ _ p in absurd (n (eqb-true _ _ r.0) (eqb-true _ _ r.1))
+      go false p true q = let r = and_true _ _ q in absurd (m (eqb-true _ _ r.0) (leb-true _ _ r.1))
+      go false p false q = refl
 
 -- a record of a list that is a term was read as a term's, and so with a course
-pub of_term_lem : (r : AsTerm) (t : Term) → of_term r ≡ OfTerm t → r ≡ asTerm.Good t
-of_term_lem (asTerm.Good u) t e = let x : u ≡ t = cc in rw x refl
-of_term_lem (asTerm.Faulty f) t e = let x : ◌≡◌ {A = ℕ} 0 1 = cc in absurd (omega arith)
+pub of_term_lem : (r : Result Term Fault) (t : Term) → of_term r ≡ OfTerm t → r ≡ Ok t
+of_term_lem (Ok u) t e = let x : u ≡ t = cc in rw x refl
+of_term_lem (Err f) t e = let x : ◌≡◌ {A = ℕ} 0 1 = cc in absurd (omega arith)
 
-pub of_course_lem : (r : AsCourse) (c : Course) → of_course r ≡ OfCourse c → r ≡ asCourse.Good c
-of_course_lem (asCourse.Good d) c e = let x : d ≡ c = cc in rw x refl
-of_course_lem (asCourse.Faulty f) c e = let x : ◌≡◌ {A = ℕ} 0 1 = cc in absurd (omega arith)
+pub of_course_lem : (r : Result Course Fault) (c : Course) → of_course r ≡ OfCourse c → r ≡ Ok c
+of_course_lem (Ok d) c e = let x : d ≡ c = cc in rw x refl
+of_course_lem (Err f) c e = let x : ◌≡◌ {A = ℕ} 0 1 = cc in absurd (omega arith)
 
-pub term_no_course : (r : AsTerm) (c : Course) → of_term r ≡ OfCourse c → ⊥
-term_no_course (asTerm.Good t) c e = let x : ◌≡◌ {A = ℕ} 0 1 = cc in omega arith
-term_no_course (asTerm.Faulty f) c e = let x : ◌≡◌ {A = ℕ} 0 1 = cc in omega arith
+pub term_no_course : (r : Result Term Fault) (c : Course) → of_term r ≡ OfCourse c → ⊥
+term_no_course (Ok t) c e = let x : ◌≡◌ {A = ℕ} 0 1 = cc in omega arith
+term_no_course (Err f) c e = let x : ◌≡◌ {A = ℕ} 0 1 = cc in omega arith
 
-pub course_no_term : (r : AsCourse) (t : Term) → of_course r ≡ OfTerm t → ⊥
-course_no_term (asCourse.Good c) t e = let x : ◌≡◌ {A = ℕ} 0 1 = cc in omega arith
-course_no_term (asCourse.Faulty f) t e = let x : ◌≡◌ {A = ℕ} 0 1 = cc in omega arith
+pub course_no_term : (r : Result Course Fault) (t : Term) → of_course r ≡ OfTerm t → ⊥
+course_no_term (Ok c) t e = let x : ◌≡◌ {A = ℕ} 0 1 = cc in omega arith
+course_no_term (Err f) t e = let x : ◌≡◌ {A = ℕ} 0 1 = cc in omega arith
 
 pub record_term : (s : List ℕ) (at terms courses : ℕ) (t : Term) → record_at s at terms courses ≡ OfTerm t → (letter_at s at ≡ 84) × (courses ≡ 0) × TermRead s at terms t
 unfolding record_at

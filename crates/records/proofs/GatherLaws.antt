@@ -9,27 +9,54 @@ use native.Mathlib.Omega.{arith}
 use native.Mathlib.Decide.{ℕ_discrete}
 use lib.ListN.{length, length-set, length-replicate, get_or-replicate}
 use lib.Seq.{get_or-set_same, get_or-set_other}
+use Rattle.std.specs.Prelude.{Result, Ok, Err}
 use Rattle.theory.specs.Choice.{choose}
 use Rattle.year.specs.Year.{term_at, course_at, course_of, weight, list, zero_term, zero_course}
 use Rattle.year.specs.Sums.{fixed_credits, open_credits, fixed_count, open_count, sums_at}
-use Rattle.year.specs.Doors.{empty_year, with_sums}
+use Rattle.year.specs.Doors.{with_sums}
 use Rattle.year.specs.Sound.{TermSound, CourseSound, Sound}
-use Rattle.year.specs.Computing.{computing as computingYear}
 use Rattle.year.specs.declared.Term.{Term}
 use Rattle.year.specs.declared.Course.{Course}
 use Rattle.year.specs.declared.Year.{Year}
 use Rattle.records.specs.declared.Fault.{Fault}
 use Rattle.records.specs.declared.Fault.TheVariants as fault
-use Rattle.records.specs.declared.Reading.{Reading}
-use Rattle.records.specs.declared.Reading.TheVariants.{Done, Refused}
-use Rattle.records.specs.declared.Received.{Received}
-use Rattle.records.specs.Reading.{Record, OfTerm, OfCourse, Faulty, blank_year, add_term, add_course, done, refused, taken, onward, gathered, summed}
+use Rattle.records.specs.declared.Refusal.{Refusal}
+use Rattle.records.specs.Numbers.{fault_number, reading_number}
+use Rattle.records.specs.Reading.{Record, OfTerm, OfCourse, Faulty, blank_year, add_term, add_course, done, refusal, refused, taken, onward, gathered, summed, year_read}
+
+-- ---- done, or refused
 
 done_same : (y z : Year) → done y ≡ done z → y ≡ z
-done_same y z e = ap (λ (r : Received). r.year) e
+done_same y z = ap year_read
 
-pub is_done : (r : Received) → r.answer ≡ Done → r ≡ done r.year
-is_done r e = λ i. record { answer = e i; year = r.year }
+done_refused : (y : Year) (r : Refusal) → done y ≡ Err r → ⊥
+done_refused y r e = cc
+
+refused_same : (f g : Fault) (j k : ℕ) → refused f j ≡ refused g k → (f ≡ g) × (j ≡ k)
+refused_same f g j k e =
+    let q : refusal f j ≡ refusal g k = cc in
+    (ap (λ (r : Refusal). r.fault) q, ap (λ (r : Refusal). r.record) q)
+
+pub fault_some : (f : Fault) → fault_number f ≡ 0 → ⊥
+fault_some fault.Length e = omega arith
+fault_some fault.Letter e = omega arith
+fault_some fault.Number e = omega arith
+fault_some fault.Size e = omega arith
+fault_some fault.Order e = omega arith
+fault_some fault.List e = omega arith
+fault_some fault.Padding e = omega arith
+
+-- what bears the number 0 is a year, and what bears another is a refusal, which holds no year
+pub is_done : (r : Result Year Refusal) → reading_number r ≡ 0 → r ≡ done (year_read r)
+is_done (Ok y) e = refl
+is_done (Err r) e = absurd (fault_some r.fault e)
+
+pub is_refused : (r : Result Year Refusal) → (reading_number r ≡ 0 → ⊥) → (q : Refusal) × (r ≡ Err q)
+is_refused (Ok y) n = absurd (n refl)
+is_refused (Err q) n = (q, refl)
+
+pub refused_numbered : (r : Result Year Refusal) (q : Refusal) → r ≡ Err q → reading_number r ≡ 0 → ⊥
+refused_numbered r q e z = fault_some q.fault (sym (ap reading_number e) ∙ z)
 
 module _ (entry : ℕ → Year → Record) (start : Year) where
   -- ---- the records one by one
@@ -58,16 +85,13 @@ module _ (entry : ℕ → Year → Record) (start : Year) where
   fault_stays k y f n l e r = refused_stays (suc k) n f k (omega arith) (gathered_more k y e ∙ ap (taken y k) r)
 
   -- what is done was done before the last record
-  done_before : (k : ℕ) (z : Year) → gathered entry start (suc k) ≡ done z → gathered entry start k ≡ done (gathered entry start k).year
+  done_before : (k : ℕ) (z : Year) → gathered entry start (suc k) ≡ done z → (y : Year) × (gathered entry start k ≡ done y)
   unfolding gathered
-  done_before k z e = go (gathered entry start k) (gathered entry start k).answer refl (taken (gathered entry start k).year k (entry k (gathered entry start k).year)) e
+  done_before k z = go (gathered entry start k) refl
     where
-      go : (r : Received) (a : Reading) → r.answer ≡ a → (next : Received) → onward r a next ≡ done z → r ≡ done r.year
-      go r Done p next e = is_done r p
-      go r (Refused f n) p next e =
-          let q : r.answer ≡ Done = ap (λ (x : Received). x.answer) e in
-          let x : ◌≡◌ {A = ℕ} 0 1 = cc in
-          absurd (omega arith)
+      go : (r : Result Year Refusal) → gathered entry start k ≡ r → onward r (λ y. taken y k (entry k y)) ≡ done z → (y : Year) × (gathered entry start k ≡ done y)
+      go (Ok y) p e = (y, p)
+      go (Err q) p e = absurd (done_refused z q (sym e))
 
   -- ---- the principle
 
@@ -77,17 +101,13 @@ module _ (entry : ℕ → Year → Record) (start : Year) where
     step : (k : ℕ) (y z : Year) (r : Record) → P k y → entry k y ≡ r → taken y k r ≡ done z → P (suc k) z
     step k y z (OfTerm t) p q e = rw (sym (done_same (add_term y t) z e)) (term k y t p q)
     step k y z (OfCourse c) p q e = rw (sym (done_same (add_course y c) z e)) (course k y c p q)
-    step k y z (Faulty f) p q e =
-        let a : Refused f k ≡ Done = ap (λ (r : Received). r.answer) e in
-        let x : ◌≡◌ {A = ℕ} 0 1 = cc in
-        absurd (omega arith)
+    step k y z (Faulty f) p q e = absurd (done_refused z (refusal f k) (sym e))
 
     pub gathered_keeps : (k : ℕ) (y : Year) → gathered entry start k ≡ done y → P k y
     gathered_keeps zero y e = rw (sym (done_same start y (sym gathered_zero ∙ e))) first
     gathered_keeps (suc k) z e =
         let b = done_before k z e in
-        let y = (gathered entry start k).year in
-        step k y z (entry k y) (gathered_keeps k y b) refl (sym (gathered_more k y b) ∙ e)
+        step k b.0 z (entry k b.0) (gathered_keeps k b.0 b.1) refl (sym (gathered_more k b.0 b.1) ∙ e)
 
   -- ---- a refusal is the first fault
 
@@ -97,88 +117,84 @@ module _ (entry : ℕ → Year → Record) (start : Year) where
     pub taken_before : gathered entry start k ≡ done so_far
     pub fault_here : entry k so_far ≡ Faulty f
 
-  fault_in : (m : ℕ) (y : Year) (f : Fault) (k : ℕ) → gathered entry start m ≡ done y → (r : Record) → entry m y ≡ r → (taken y m r).answer ≡ Refused f k → (k ≤ m) × FirstFault f k
-  fault_in m y f k b (OfTerm t) q e = let x : ◌≡◌ {A = ℕ} 0 1 = cc in absurd (omega arith)
-  fault_in m y f k b (OfCourse c) q e = let x : ◌≡◌ {A = ℕ} 0 1 = cc in absurd (omega arith)
+  fault_in : (m : ℕ) (y : Year) (f : Fault) (k : ℕ) → gathered entry start m ≡ done y → (r : Record) → entry m y ≡ r → taken y m r ≡ refused f k → (k ≤ m) × FirstFault f k
+  fault_in m y f k b (OfTerm t) q e = absurd (done_refused _ _ e)
+  fault_in m y f k b (OfCourse c) q e = absurd (done_refused _ _ e)
   fault_in m y f k b (Faulty g) q e =
-      let at : m ≡ k = cc in
-      let of : Faulty g ≡ Faulty f = cc in
-      (omega arith, record { so_far = y; taken_before = rw (sym at) b; fault_here = rw (sym at) (q ∙ of) })
+      let s = refused_same g f m k e in
+      (omega (arith, s.1), record { so_far = y; taken_before = rw (sym s.1) b; fault_here = rw (sym s.1) (q ∙ ap Faulty s.0) })
 
-  pub first_fault : (m : ℕ) (f : Fault) (k : ℕ) → (gathered entry start m).answer ≡ Refused f k → (k < m) × FirstFault f k
+  pub first_fault : (m : ℕ) (f : Fault) (k : ℕ) → gathered entry start m ≡ refused f k → (k < m) × FirstFault f k
   unfolding gathered
-  first_fault zero f k e = let x : ◌≡◌ {A = ℕ} 0 1 = cc in absurd (omega arith)
-  first_fault (suc m) f k e = go (gathered entry start m).answer refl (first_fault m f k)
+  first_fault zero f k e = absurd (done_refused _ _ e)
+  first_fault (suc m) f k e = go (gathered entry start m) refl (first_fault m f k)
     where
-      go : (a : Reading) → (gathered entry start m).answer ≡ a → ((gathered entry start m).answer ≡ Refused f k → (k < m) × FirstFault f k) → (k < suc m) × FirstFault f k
-      go Done p ih =
-          let y = (gathered entry start m).year in
-          let b : gathered entry start m ≡ done y = is_done (gathered entry start m) p in
-          let r = fault_in m y f k b (entry m y) refl (sym (ap (λ (r : Received). r.answer) (gathered_more m y b)) ∙ e) in
+      go : (r : Result Year Refusal) → gathered entry start m ≡ r → (gathered entry start m ≡ refused f k → (k < m) × FirstFault f k) → (k < suc m) × FirstFault f k
+      go (Ok y) p ih =
+          let r = fault_in m y f k p (entry m y) refl (sym (gathered_more m y p) ∙ e) in
           (omega (arith, r.0), r.1)
-      go (Refused g n) p ih =
+      go (Err q) p ih =
           let r = ih (p ∙ rw p at e) in
           (omega (arith, r.0), r.1)
-
-  -- and the whole of what is handed back with it
-  pub refused_whole : (m : ℕ) (f : Fault) (k : ℕ) → (gathered entry start m).answer ≡ Refused f k → gathered entry start m ≡ refused f k
-  refused_whole m f k e = let r = first_fault m f k e in fault_stays k r.1.so_far f m r.0 r.1.taken_before r.1.fault_here
 
 -- two lists whose records are the same behind each year that is met
 module _ (entry other : ℕ → Year → Record) (start : Year) where
   pub gathered_same : (n : ℕ) → ((k : ℕ) (y : Year) → k < n → gathered entry start k ≡ done y → entry k y ≡ other k y) → gathered entry start n ≡ gathered other start n
   unfolding gathered
   gathered_same zero h = refl
-  gathered_same (suc n) h = go (gathered entry start n) refl (gathered entry start n).answer refl (gathered_same n (λ k y l. h k y (omega arith)))
+  gathered_same (suc n) h = go (gathered entry start n) refl (gathered_same n (λ k y l. h k y (omega arith)))
     where
       -- the next record is looked at only where all before it were taken
-      go : (r : Received) → gathered entry start n ≡ r → (a : Reading) → r.answer ≡ a → r ≡ gathered other start n
-          → onward r r.answer (taken r.year n (entry n r.year)) ≡ onward (gathered other start n) (gathered other start n).answer (taken (gathered other start n).year n (other n (gathered other start n).year))
-      go r is Done p e = rw (sym e, p, h n r.year (omega arith) (is ∙ is_done r p)) refl
-      go r is (Refused f k) p e = rw (sym e, p) refl
+      go : (r : Result Year Refusal) → gathered entry start n ≡ r → r ≡ gathered other start n
+          → onward r (λ y. taken y n (entry n y)) ≡ onward (gathered other start n) (λ y. taken y n (other n y))
+      go (Ok y) is e = rw (sym e, h n y (omega arith) is) refl
+      go (Err q) is e = rw (sym e) refl
 
 -- ---- a list as a whole
 
 -- refused by its length, or what its n records give
-abbrev pub listed : Bool → (ℕ → Year → Record) → Year → ℕ → Received
+abbrev pub listed : Bool → (ℕ → Year → Record) → Year → ℕ → Result Year Refusal
 listed bad entry start n = choose bad (refused fault.Length 0) (gathered entry start n)
 
 module _ (bad : Bool) (entry : ℕ → Year → Record) (start : Year) (n : ℕ) where
   -- done: its length is good, and each record was taken
-  pub listed_done : (listed bad entry start n).answer ≡ Done → (bad ≡ false) × (gathered entry start n ≡ done (listed bad entry start n).year)
-  listed_done e = go bad refl e
+  pub listed_done : (y : Year) → listed bad entry start n ≡ done y → (bad ≡ false) × (gathered entry start n ≡ done y)
+  listed_done y e = go bad refl e
     where
-      go : (b : Bool) → bad ≡ b → (listed b entry start n).answer ≡ Done → (b ≡ false) × (gathered entry start n ≡ done (listed b entry start n).year)
-      go true p e = let x : ◌≡◌ {A = ℕ} 0 1 = cc in absurd (omega arith)
-      go false p e = (refl, is_done (gathered entry start n) e)
+      go : (b : Bool) → bad ≡ b → listed b entry start n ≡ done y → (b ≡ false) × (gathered entry start n ≡ done y)
+      go true p e = absurd (done_refused _ _ (sym e))
+      go false p e = (refl, e)
 
-  -- refused: by its length at place 0, or at its first record with a fault; the year is the empty one
-  pub listed_refused : (f : Fault) (k : ℕ) → (listed bad entry start n).answer ≡ Refused f k
-      → (listed bad entry start n ≡ refused f k) × (((bad ≡ true) × (f ≡ fault.Length) × (k ≡ 0)) ⊎ ((bad ≡ false) × (k < n) × FirstFault entry start f k))
+  -- refused: by its length at place 0, or at its first record with a fault
+  pub listed_refused : (f : Fault) (k : ℕ) → listed bad entry start n ≡ refused f k
+      → ((bad ≡ true) × (f ≡ fault.Length) × (k ≡ 0)) ⊎ ((bad ≡ false) × (k < n) × FirstFault entry start f k)
   listed_refused f k e = go bad refl e
     where
-      go : (b : Bool) → bad ≡ b → (listed b entry start n).answer ≡ Refused f k
-          → (listed b entry start n ≡ refused f k) × (((b ≡ true) × (f ≡ fault.Length) × (k ≡ 0)) ⊎ ((b ≡ false) × (k < n) × FirstFault entry start f k))
+      go : (b : Bool) → bad ≡ b → listed b entry start n ≡ refused f k
+          → ((b ≡ true) × (f ≡ fault.Length) × (k ≡ 0)) ⊎ ((b ≡ false) × (k < n) × FirstFault entry start f k)
       go true p e =
-          let x : f ≡ fault.Length = cc in
-          let y : k ≡ 0 = cc in
-          (λ i. record { answer = e i; year = empty_year }, inl (refl, x, y))
-      go false p e = let r = first_fault entry start n f k e in (refused_whole entry start n f k e, inr (refl, r.0, r.1))
+          let s = refused_same f fault.Length k 0 (sym e) in
+          inl (refl, s.0, s.1)
+      go false p e = let r = first_fault entry start n f k e in inr (refl, r.0, r.1)
 
 -- ---- the sums filled in
 
--- a refusal stays as it is: the empty year has its sums
-pub summed_refused : (f : Fault) (k : ℕ) → summed (refused f k) ≡ refused f k
-unfolding computingYear
-summed_refused f k = refl
+-- a year with its sums was a year before, and a refusal was that refusal
+pub summed_was : (r : Result Year Refusal) (y : Year) → summed r ≡ done y → (z : Year) × (r ≡ done z) × (with_sums z ≡ y)
+summed_was (Ok z) y e = (z, refl, done_same (with_sums z) y e)
+summed_was (Err q) y e = absurd (done_refused y q (sym e))
+
+pub summed_refused : (r : Result Year Refusal) (q : Refusal) → summed r ≡ Err q → r ≡ Err q
+summed_refused (Ok z) q e = absurd (done_refused _ q e)
+summed_refused (Err p) q e = e
 
 -- how a list ends whose year is handed back with its sums: refused by its length, refused at a record, or done
 module _ (bad : Bool) (entry : ℕ → Year → Record) (start : Year) (n : ℕ) where
   pub summed_long : bad ≡ true → refused fault.Length 0 ≡ summed (listed bad entry start n)
-  summed_long p = rw p (sym (summed_refused fault.Length 0))
+  summed_long p = rw p refl
 
   pub summed_fault : bad ≡ false → (k : ℕ) (y : Year) (f : Fault) → k < n → gathered entry start k ≡ done y → entry k y ≡ Faulty f → refused f k ≡ summed (listed bad entry start n)
-  summed_fault p k y f l e r = rw p (sym (ap summed (fault_stays entry start k y f n l e r) ∙ summed_refused f k))
+  summed_fault p k y f l e r = rw p (sym (ap summed (fault_stays entry start k y f n l e r)))
 
   pub summed_done : bad ≡ false → (k : ℕ) (y : Year) → k ≡ n → gathered entry start k ≡ done y → done (with_sums y) ≡ summed (listed bad entry start n)
   summed_done p k y is e = rw (p, sym is) (sym (ap summed e))

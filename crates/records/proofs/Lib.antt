@@ -1,4 +1,6 @@
 -- Laws about records.
+pub mod ResultLaws
+pub mod BlankLaws
 pub mod EntryLaws
 pub mod GatherLaws
 pub mod ListLaws

@@ -16,11 +16,12 @@ use Rattle.year.specs.declared.Course.{Course}
 use Rattle.year.specs.declared.Year.{Year}
 use Rattle.records.specs.declared.Fault.{Fault}
 use Rattle.records.specs.declared.Fault.TheVariants as fault
-use Rattle.records.specs.declared.Reading.TheVariants.{Refused}
-use Rattle.records.specs.declared.Received.{Received}
-use Rattle.records.specs.Reading.{OfTerm, OfCourse, blank_year, add_term, add_course, done, refused, record_in, read_to, bad_length, summed, read_list}
+use Rattle.records.specs.declared.Refusal.{Refusal}
+use Rattle.std.specs.Prelude.{◌↔◌, Err}
+use Rattle.records.specs.Numbers.{reading_number}
+use Rattle.records.specs.Reading.{OfTerm, OfCourse, blank_year, add_term, add_course, done, refused, record_in, read_to, bad_length, read_list}
 use Rattle.records.proofs.EntryLaws.{record_term, record_course}
-use Rattle.records.proofs.GatherLaws.{gathered_keeps, FirstFault, listed_done, listed_refused, summed_refused, Begun, begun_blank, begun_term, begun_course, begun_sound}
+use Rattle.records.proofs.GatherLaws.{gathered_keeps, FirstFault, is_refused, refused_numbered, listed, listed_done, listed_refused, summed_was, summed_refused, Begun, begun_blank, begun_term, begun_course, begun_sound}
 
 -- ---- the first k records give the front of a sound year
 
@@ -70,20 +71,19 @@ pub list_read : (s : List ℕ) (y : Year) → read_list s ≡ done y
     → (1 ≤ length s / 16) × (length s / 16 * 16 ≡ length s) × (z : Year) × (read_to s (length s / 16) ≡ done z) × (with_sums z ≡ y)
 unfolding read_list
 list_read s y e =
-    let d = listed_done (bad_length (length s)) (record_in s) blank_year (length s / 16) (ap (λ (r : Received). r.answer) e) in
+    let w = summed_was (listed (bad_length (length s)) (record_in s) blank_year (length s / 16)) y e in
+    let d = listed_done (bad_length (length s)) (record_in s) blank_year (length s / 16) w.0 w.1 in
     let g = length_good (length s) d.0 in
-    (g.0, g.1, _, d.1, ap (λ (r : Received). r.year) e)
+    (g.0, g.1, w.0, d.1, w.2)
 
--- a list that was refused hands back the empty year
-pub list_refused : (s : List ℕ) (f : Fault) (k : ℕ) → (read_list s).answer ≡ Refused f k → read_list s ≡ refused f k
-unfolding read_list
-list_refused s f k e =
-    ap summed (listed_refused (bad_length (length s)) (record_in s) blank_year (length s / 16) f k e).0 ∙ summed_refused f k
+-- a list that is refused gives a refusal, which holds no year
+pub list_refused : (s : List ℕ) → (reading_number (read_list s) ≡ 0 → ⊥) ↔ ((r : Refusal) × (read_list s ≡ Err r))
+list_refused s = (is_refused (read_list s), λ (r, e). refused_numbered (read_list s) r e)
 
 -- a list has 80 records at most, and a refusal by length is at place 0
-pub place_few : (s : List ℕ) (f : Fault) (k : ℕ) → (read_list s).answer ≡ Refused f k → k ≤ 80
+pub place_few : (s : List ℕ) (f : Fault) (k : ℕ) → read_list s ≡ refused f k → k ≤ 80
 unfolding read_list
-place_few s f k e = go (listed_refused (bad_length (length s)) (record_in s) blank_year (length s / 16) f k e).1
+place_few s f k e = go (listed_refused (bad_length (length s)) (record_in s) blank_year (length s / 16) f k (summed_refused _ _ e))
   where
     go : ((bad_length (length s) ≡ true) × (f ≡ fault.Length) × (k ≡ 0)) ⊎ ((bad_length (length s) ≡ false) × (k < length s / 16) × FirstFault (record_in s) blank_year f k) → k ≤ 80
     go (inl (b, g, z)) = omega arith

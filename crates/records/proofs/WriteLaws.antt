@@ -12,7 +12,8 @@ use Rattle.theory.specs.Choice.{choose}
 use Rattle.year.specs.Sound.{is_sound, Sound}
 use Rattle.year.proofs.SoundLaws.{sound_to}
 use Rattle.year.specs.declared.Year.{Year}
-use Rattle.records.specs.declared.Writing.TheVariants.{Done, Unsound, Short}
+use Rattle.std.specs.Prelude.{Ok, Err}
+use Rattle.records.specs.declared.WritingRefusal.TheVariants.{Unsound, Short}
 use Rattle.records.specs.Writing.{term_block, course_block, joined, records_of, write_answer, written}
 use Rattle.records.specs.Laid.{laid}
 use Rattle.records.proofs.LayLaws.{length_joined, laid_more}
@@ -28,11 +29,11 @@ records_length y =
 pub records_most : (y : Year) → Sound y → length (records_of y) ≤ 1280
 records_most y s = omega (arith, records_length y, s.terms_most, s.courses_most)
 
-pub write_unsound : (y : Year) (b : List ℕ) → is_sound y ≡ false → (Unsound ≡ write_answer y (length b)) × (b ≡ written y b)
+pub write_unsound : (y : Year) (b : List ℕ) → is_sound y ≡ false → (Err Unsound ≡ write_answer y (length b)) × (b ≡ written y b)
 unfolding write_answer written
 write_unsound y b e = (rw e refl, rw e refl)
 
-pub write_short : (y : Year) (b : List ℕ) → is_sound y ≡ true → length b < (y.terms + y.courses) * 16 → (Short ≡ write_answer y (length b)) × (b ≡ written y b)
+pub write_short : (y : Year) (b : List ℕ) → is_sound y ≡ true → length b < (y.terms + y.courses) * 16 → (Err Short ≡ write_answer y (length b)) × (b ≡ written y b)
 unfolding write_answer written
 write_short y b e h =
     let n = lt-leb (length (records_of y)) (length b) (omega (arith, records_length y)) in
@@ -42,7 +43,7 @@ laid_front : (b l : List ℕ) → laid b 0 l ≡ l ++ drop (length l) b
 unfolding laid
 laid_front b l = ap (λ (n : ℕ). l ++ drop n b) (zero-add (length l))
 
-pub write_done : (y : Year) (b : List ℕ) → is_sound y ≡ true → (y.terms + y.courses) * 16 ≤ length b → Done ≡ write_answer y (length b)
+pub write_done : (y : Year) (b : List ℕ) → is_sound y ≡ true → (y.terms + y.courses) * 16 ≤ length b → Ok tt ≡ write_answer y (length b)
 unfolding write_answer
 write_done y b e h = let n = le-leb (length (records_of y)) (length b) (omega (arith, records_length y)) in rw (e, n) refl
 
@@ -66,11 +67,11 @@ unfolding written
 written_is y b s h = rw (sound_to y s, le-leb (length (records_of y)) (length b) h) refl
 
 -- refused, the buffer is as it was
-pub unwritten : (y : Year) (b : List ℕ) → (write_answer y (length b) ≡ Done → ⊥) → written y b ≡ b
+pub unwritten : (y : Year) (b : List ℕ) → (write_answer y (length b) ≡ Ok tt → ⊥) → written y b ≡ b
 unfolding write_answer written
 unwritten y b h = go (is_sound y) (leb (length (records_of y)) (length b)) h
   where
-    go : (s l : Bool) → (choose s (choose l Done Short) Unsound ≡ Done → ⊥) → choose (s && l) (records_of y ++ drop (length (records_of y)) b) b ≡ b
+    go : (s l : Bool) → (choose s (choose l (Ok (tt {0})) (Err Short)) (Err Unsound) ≡ Ok (tt {0}) → ⊥) → choose (s && l) (records_of y ++ drop (length (records_of y)) b) b ≡ b
     go true true h = absurd (h refl)
     go true false h = refl
     go false l h = refl

@@ -1,6 +1,6 @@
 -- Closed examples, by computation: year E whole, each limit at its last good value and one past it, each refusal with its place,
 -- and which of two faults is told.
-use Rattle.std.specs.Prelude.{ℕ, ◌-◌, ◌/◌, ◌%◌, List, [], ◌∷◌, ◌++◌, ◌≡◌, refl, length, replicate}
+use Rattle.std.specs.Prelude.{ℕ, ◌-◌, ◌/◌, ◌%◌, List, [], ◌∷◌, ◌++◌, ◌≡◌, refl, Ok, Err, length, replicate}
 use Rattle.year.specs.Year.{course_of}
 use Rattle.year.specs.Doors.{empty_year}
 use Rattle.year.specs.Sums.{no_sums}
@@ -8,9 +8,9 @@ use Rattle.year.specs.declared.Year.{Year}
 use Rattle.year.specs.Computing.{computing as computingYear}
 use Rattle.year.specs.Examples.{year_e}
 use Rattle.records.specs.declared.Fault.TheVariants as fault
-use Rattle.records.specs.declared.Writing.TheVariants.{Done, Unsound, Short}
+use Rattle.records.specs.declared.WritingRefusal.TheVariants.{Unsound, Short}
 use Rattle.records.specs.Numbers.{reading_number, reading_place}
-use Rattle.records.specs.Reading.{OfCourse, Faulty, record_at, blank_year, done, read_list}
+use Rattle.records.specs.Reading.{OfCourse, Faulty, record_at, blank_year, done, read_list, year_read}
 use Rattle.records.specs.Writing.{joined, records_of, write_answer, written}
 use Rattle.records.specs.Computing.{computing}
 
@@ -34,7 +34,7 @@ plain_course n w = padded (67 ∷ n ∷ w / 256 ∷ w % 256 ∷ 0 ∷ 1 ∷ [])
 
 -- the number and the place of an answer
 abbrev told : List ℕ → ℕ × ℕ
-told s = (reading_number (read_list s).answer, reading_place (read_list s).answer)
+told s = (reading_number (read_list s), reading_place (read_list s))
 
 -- ---- year E
 
@@ -56,13 +56,13 @@ unfolding records_of joined
 year_e_records = refl
 
 -- five records want 80 bytes; the byte behind them stays
-pub year_e_written : (write_answer year_e 79 ≡ Short) × (write_answer year_e 80 ≡ Done)
+pub year_e_written : (write_answer year_e 79 ≡ Err Short) × (write_answer year_e 80 ≡ Ok tt)
     × (written year_e (replicate 81 7) ≡ bytes_e ++ 7 ∷ [])
 unfolding write_answer written records_of joined computingYear
 year_e_written = (refl, refl, refl)
 
 -- a year that is not sound, and a buffer that is short, leave the buffer as it was
-pub unwritten : (write_answer blank_year 0 ≡ Unsound)
+pub unwritten : (write_answer blank_year 0 ≡ Err Unsound)
     × (written blank_year (7 ∷ []) ≡ 7 ∷ [])
     × (written year_e (replicate 79 7) ≡ replicate 79 7)
 unfolding write_answer written records_of joined computingYear
@@ -80,7 +80,7 @@ unsummed_e = record {
 }
 
 pub unsummed_unwritten : (records_of unsummed_e ≡ bytes_e)
-    × (write_answer unsummed_e 80 ≡ Unsound)
+    × (write_answer unsummed_e 80 ≡ Err Unsound)
     × (written unsummed_e (replicate 81 7) ≡ replicate 81 7)
 unfolding write_answer written records_of joined computingYear
 unsummed_unwritten = (refl, refl, refl)
@@ -139,7 +139,7 @@ longest = (refl, refl)
 -- ---- each refusal
 
 -- 1: empty, no multiple of 16; the year handed back
-pub lengths : (told [] ≡ (1, 0)) × (told (replicate 15 0) ≡ (1, 0)) × ((read_list []).year ≡ empty_year)
+pub lengths : (told [] ≡ (1, 0)) × (told (replicate 15 0) ≡ (1, 0)) × (year_read (read_list []) ≡ empty_year)
 unfolding computing
 lengths = (refl, refl, refl)
 

@@ -1,5 +1,5 @@
 -- Reading: one record with its faults in the paper's order, and the list record by record up to its first fault.
-use Rattle.std.specs.Prelude.{ℕ, zero, suc, ◌+◌, ◌*◌, ◌/◌, ◌%◌, ◌^◌, Bool, not, ◌&&◌, ◌||◌, List, eqb, leb, ltb, length, replicate, set}
+use Rattle.std.specs.Prelude.{ℕ, zero, suc, ◌+◌, ◌*◌, ◌/◌, ◌%◌, ◌^◌, Bool, not, ◌&&◌, ◌||◌, List, Result, Ok, Err, eqb, leb, ltb, length, replicate, set}
 use Rattle.theory.specs.Choice.{choose}
 use Rattle.year.specs.Year.{term_of, course_of, zero_term}
 use Rattle.year.specs.Sums.{no_sums}
@@ -9,13 +9,7 @@ use Rattle.year.specs.declared.Course.{Course}
 use Rattle.year.specs.declared.Year.{Year}
 use Rattle.records.specs.declared.Fault.{Fault}
 use Rattle.records.specs.declared.Fault.TheVariants as fault
-use Rattle.records.specs.declared.AsTerm.{AsTerm}
-use Rattle.records.specs.declared.AsTerm.TheVariants as asTerm
-use Rattle.records.specs.declared.AsCourse.{AsCourse}
-use Rattle.records.specs.declared.AsCourse.TheVariants as asCourse
-use Rattle.records.specs.declared.Reading.{Reading}
-use Rattle.records.specs.declared.Reading.TheVariants.{Done, Refused}
-use Rattle.records.specs.declared.Received.{Received}
+use Rattle.records.specs.declared.Refusal.{Refusal}
 use Rattle.records.specs.Bytes.{letter_at, byte_at, word_at, blank_from}
 
 -- ---- one record
@@ -39,32 +33,32 @@ abbrev pub bad_list : ℕ → ℕ → Bool
 bad_list l terms = eqb l 0 || not (eqb (l / 2 ^ terms) 0)
 
 -- a term's record by itself, its letter and its number set aside: refusals 4, 5 and 7, or the term
-unfoldable pub term_by_itself : List ℕ → ℕ → AsTerm
+unfoldable pub term_by_itself : List ℕ → ℕ → Result Term Fault
 term_by_itself s at =
-    choose (bad_bounds s at) (asTerm.Faulty fault.Size)
-    (choose (bad_order s at) (asTerm.Faulty fault.Order)
-    (choose (blank_from s at 10) (asTerm.Good (term_of (word_at s at 2) (word_at s at 4) (word_at s at 6) (word_at s at 8)))
-    (asTerm.Faulty fault.Padding)))
+    choose (bad_bounds s at) (Err fault.Size)
+    (choose (bad_order s at) (Err fault.Order)
+    (choose (blank_from s at 10) (Ok (term_of (word_at s at 2) (word_at s at 4) (word_at s at 6) (word_at s at 8)))
+    (Err fault.Padding)))
 
 -- a course of a weight and a list, from a record whose other bytes are zero or not: refusals 4, 6 and 7, or the course
-unfoldable pub course_by : ℕ → ℕ → Bool → ℕ → AsCourse
+unfoldable pub course_by : ℕ → ℕ → Bool → ℕ → Result Course Fault
 course_by w l zeros terms =
-    choose (bad_weight w) (asCourse.Faulty fault.Size)
-    (choose (bad_list l terms) (asCourse.Faulty fault.List)
-    (choose zeros (asCourse.Good (course_of w l))
-    (asCourse.Faulty fault.Padding)))
+    choose (bad_weight w) (Err fault.Size)
+    (choose (bad_list l terms) (Err fault.List)
+    (choose zeros (Ok (course_of w l))
+    (Err fault.Padding)))
 
 -- a course's record by itself, its letter and its number set aside, in a year of that many terms
-abbrev pub course_by_itself : List ℕ → ℕ → ℕ → AsCourse
+abbrev pub course_by_itself : List ℕ → ℕ → ℕ → Result Course Fault
 course_by_itself s at terms = course_by (word_at s at 2) (word_at s at 4) (blank_from s at 6) terms
 
 -- a term's record behind its letter, as term `next`
-unfoldable pub term_record : List ℕ → ℕ → ℕ → AsTerm
-term_record s at next = choose (bears_next s at next 16) (term_by_itself s at) (asTerm.Faulty fault.Number)
+unfoldable pub term_record : List ℕ → ℕ → ℕ → Result Term Fault
+term_record s at next = choose (bears_next s at next 16) (term_by_itself s at) (Err fault.Number)
 
 -- a course's record behind its letter, as course `next` of a year of that many terms
-unfoldable pub course_record : List ℕ → ℕ → ℕ → ℕ → AsCourse
-course_record s at next terms = choose (bears_next s at next 64) (course_by_itself s at terms) (asCourse.Faulty fault.Number)
+unfoldable pub course_record : List ℕ → ℕ → ℕ → ℕ → Result Course Fault
+course_record s at next terms = choose (bears_next s at next 64) (course_by_itself s at terms) (Err fault.Number)
 
 -- what one record of a list holds
 pub data Record : Type 0 where
@@ -72,13 +66,13 @@ pub data Record : Type 0 where
   OfCourse : Course → Record
   Faulty : Fault → Record
 
-abbrev pub of_term : AsTerm → Record
-of_term (asTerm.Good t) = OfTerm t
-of_term (asTerm.Faulty f) = Faulty f
+abbrev pub of_term : Result Term Fault → Record
+of_term (Ok t) = OfTerm t
+of_term (Err f) = Faulty f
 
-abbrev pub of_course : AsCourse → Record
-of_course (asCourse.Good c) = OfCourse c
-of_course (asCourse.Faulty f) = Faulty f
+abbrev pub of_course : Result Course Fault → Record
+of_course (Ok c) = OfCourse c
+of_course (Err f) = Faulty f
 
 -- the record at a place, behind that many terms and courses; refusal 2: no letter, a term behind a course, a course before any term
 unfoldable pub record_at : List ℕ → ℕ → ℕ → ℕ → Record
@@ -120,35 +114,37 @@ add_course y c = record {
   sums = y.sums;
 }
 
-abbrev pub done : Year → Received
-done y = record { answer = Done; year = y }
+abbrev pub done : Year → Result Year Refusal
+done y = Ok y
 
-abbrev pub refused : Fault → ℕ → Received
-refused f k = record { answer = Refused f k; year = empty_year }
+-- record k has the fault
+abbrev pub refusal : Fault → ℕ → Refusal
+refusal f k = record { fault = f; «record» = k }
+
+abbrev pub refused : Fault → ℕ → Result Year Refusal
+refused f k = Err (refusal f k)
 
 -- the year with what record k holds, or the refusal
-abbrev pub taken : Year → ℕ → Record → Received
+abbrev pub taken : Year → ℕ → Record → Result Year Refusal
 taken y k (OfTerm t) = done (add_term y t)
 taken y k (OfCourse c) = done (add_course y c)
 taken y k (Faulty f) = refused f k
 
--- a refusal stays
-abbrev pub onward : Received → Reading → Received → Received
-onward r Done next = next
-onward r (Refused f k) next = r
+-- a refusal stays; a year goes on to what comes next
+abbrev pub onward : Result Year Refusal → (Year → Result Year Refusal) → Result Year Refusal
+onward (Ok y) next = next y
+onward (Err r) next = Err r
 
 -- the first k records of a list taken into a year one by one; `entry i` says what record i is, behind the year so far
-unfoldable pub gathered : (ℕ → Year → Record) → Year → ℕ → Received
+unfoldable pub gathered : (ℕ → Year → Record) → Year → ℕ → Result Year Refusal
 gathered entry y zero = done y
-gathered entry y (suc k) =
-    onward (gathered entry y k) (gathered entry y k).answer
-    (taken (gathered entry y k).year k (entry k (gathered entry y k).year))
+gathered entry y (suc k) = onward (gathered entry y k) (λ z. taken z k (entry k z))
 
 -- record k of a list of terms and courses
 abbrev pub record_in : List ℕ → ℕ → Year → Record
 record_in s k y = record_at s (k * 16) y.terms y.courses
 
-abbrev pub read_to : List ℕ → ℕ → Received
+abbrev pub read_to : List ℕ → ℕ → Result Year Refusal
 read_to s = gathered (record_in s) blank_year
 
 -- refusal 1
@@ -156,8 +152,13 @@ abbrev pub bad_length : ℕ → Bool
 bad_length n = eqb n 0 || ltb 1280 n || not (eqb (n % 16) 0)
 
 -- what is handed back, with the sums of its year
-abbrev pub summed : Received → Received
-summed r = record { answer = r.answer; year = with_sums r.year }
+abbrev pub summed : Result Year Refusal → Result Year Refusal
+summed r = onward r (λ y. done (with_sums y))
 
-unfoldable pub read_list : List ℕ → Received
+unfoldable pub read_list : List ℕ → Result Year Refusal
 read_list s = summed (choose (bad_length (length s)) (refused fault.Length 0) (read_to s (length s / 16)))
+
+-- the year of a reading; a refused one hands out none, and the empty year stands for it
+abbrev pub year_read : Result Year Refusal → Year
+year_read (Ok y) = y
+year_read (Err r) = empty_year

@@ -1,13 +1,13 @@
 -- Writing: a year's records one behind the other, and the buffer that they are laid into.
-use Rattle.std.specs.Prelude.{ℕ, zero, suc, ◌/◌, ◌%◌, ◌&&◌, List, [], ◌∷◌, ◌++◌, leb, length, drop}
+use Rattle.std.specs.Prelude.{ℕ, zero, suc, ◌/◌, ◌%◌, ◌&&◌, List, [], ◌∷◌, ◌++◌, Result, Ok, Err, leb, length, drop}
 use Rattle.theory.specs.Choice.{choose}
 use Rattle.year.specs.Year.{term_at, course_at}
 use Rattle.year.specs.Sound.{is_sound}
 use Rattle.year.specs.declared.Term.{Term}
 use Rattle.year.specs.declared.Course.{Course}
 use Rattle.year.specs.declared.Year.{Year}
-use Rattle.records.specs.declared.Writing.{Writing}
-use Rattle.records.specs.declared.Writing.TheVariants.{Done, Unsound, Short}
+use Rattle.records.specs.declared.WritingRefusal.{WritingRefusal}
+use Rattle.records.specs.declared.WritingRefusal.TheVariants.{Unsound, Short}
 
 -- ---- the records
 
@@ -43,8 +43,8 @@ records_of y = joined (term_block y) y.terms ++ joined (course_block y) y.course
 -- ---- the buffer
 
 -- refusal 8, then refusal 9
-unfoldable pub write_answer : Year → ℕ → Writing
-write_answer y room = choose (is_sound y) (choose (leb (length (records_of y)) room) Done Short) Unsound
+unfoldable pub write_answer : Year → ℕ → Result (Unit {0}) WritingRefusal
+write_answer y room = choose (is_sound y) (choose (leb (length (records_of y)) room) (Ok tt) (Err Short)) (Err Unsound)
 
 -- what the buffer b holds afterwards: the records and then what stood behind them, or as before
 unfoldable pub written : Year → List ℕ → List ℕ

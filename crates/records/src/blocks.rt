@@ -7,54 +7,33 @@ ghost use Rattle.records.specs.Laid.{laid};
 use crate::{COURSE_LETTER, RECORD, TERM_LETTER};
 use year::{Course, Term, Year, pairs};
 
+// A term's record, and a course's.
 fn term_bytes(number: usize, t: Term) -> [u8; RECORD]
-    requires number_bound { number < 256 }
-    requires low_bound { (t.low.0 < 65536) × (t.high.0 < 65536) × (t.least.0 < 65536) × (t.most.0 < 65536) }
+    requires number_fits { number < 256 }
+    requires bounds_fit { (t.low.0 < 65536) × (t.high.0 < 65536) × (t.least.0 < 65536) × (t.most.0 < 65536) }
     ensures { result ≡ term_bytes number t }
 {
-    [
-        TERM_LETTER,
-        number as u8,
-        (t.low.0 / 256) as u8,
-        (t.low.0 % 256) as u8,
-        (t.high.0 / 256) as u8,
-        (t.high.0 % 256) as u8,
-        (t.least.0 / 256) as u8,
-        (t.least.0 % 256) as u8,
-        (t.most.0 / 256) as u8,
-        (t.most.0 % 256) as u8,
-        0,
-        0,
-        0,
-        0,
-        0,
-        0,
-    ]
+    let mut r = [0; RECORD];
+    r[0] = TERM_LETTER;
+    r[1] = number as u8;
+    r[2..4].copy_from_slice(&(t.low.0 as u16).to_be_bytes());
+    r[4..6].copy_from_slice(&(t.high.0 as u16).to_be_bytes());
+    r[6..8].copy_from_slice(&(t.least.0 as u16).to_be_bytes());
+    r[8..10].copy_from_slice(&(t.most.0 as u16).to_be_bytes());
+    r
 }
 
 fn course_bytes(number: usize, c: Course) -> [u8; RECORD]
-    requires number_bound { number < 256 }
-    requires weight_bound { c.weight.0 < 65536 }
+    requires number_fits { number < 256 }
+    requires weight_fits { c.weight.0 < 65536 }
     ensures { result ≡ course_bytes number c }
 {
-    [
-        COURSE_LETTER,
-        number as u8,
-        (c.weight.0 / 256) as u8,
-        (c.weight.0 % 256) as u8,
-        (c.list / 256) as u8,
-        (c.list % 256) as u8,
-        0,
-        0,
-        0,
-        0,
-        0,
-        0,
-        0,
-        0,
-        0,
-        0,
-    ]
+    let mut r = [0; RECORD];
+    r[0] = COURSE_LETTER;
+    r[1] = number as u8;
+    r[2..4].copy_from_slice(&(c.weight.0 as u16).to_be_bytes());
+    r[4..6].copy_from_slice(&c.list.to_be_bytes());
+    r
 }
 
 // Sixteen bytes laid into the buffer from a place on.
@@ -62,15 +41,13 @@ fn put(buf: &mut [u8], at: usize, r: [u8; RECORD])
     requires { at + 16 ≤ length buf.old }
     ensures { buf.new ≡ laid buf.old at r }
 {
-    for k in 0..RECORD {
-        buf[at + k] = r[k];
-    }
+    buf[at..at + RECORD].copy_from_slice(&r);
 }
 
 // The terms' records, at the front.
 pub fn put_terms(y: Year, buf: &mut [u8])
     requires sound { Sound y }
-    requires terms_in_bounds { y.terms * 16 ≤ length buf.old }
+    requires room { y.terms * 16 ≤ length buf.old }
     ensures { buf.new ≡ laid buf.old 0 (joined (term_block y) y.terms) }
 {
     for j in 0..y.terms {
@@ -81,7 +58,7 @@ pub fn put_terms(y: Year, buf: &mut [u8])
 // The courses' records, behind the terms'.
 pub fn put_courses(y: Year, buf: &mut [u8])
     requires sound { Sound y }
-    requires courses_in_bounds { (y.terms + y.courses) * 16 ≤ length buf.old }
+    requires room { (y.terms + y.courses) * 16 ≤ length buf.old }
     ensures { buf.new ≡ laid buf.old (y.terms * 16) (joined (course_block y) y.courses) }
 {
     for i in 0..y.courses {

@@ -5,16 +5,17 @@ mod blocks;
 pub mod bytes;
 pub mod entries;
 
-ghost use Rattle.std.specs.Prelude.{◌≡◌, ◌+◌, ◌*◌, ◌≤◌, ◌<◌, length};
+ghost use Rattle.std.specs.Prelude.{◌≡◌, ℕ, ◌+◌, ◌*◌, ◌^◌, ◌≤◌, ◌<◌, length, get_or};
+ghost use Rattle.year.specs.Doors.{with_sums};
 ghost use Rattle.year.specs.Sound.{Sound};
 ghost use Rattle.records.specs.Numbers.{fault_number};
-ghost use Rattle.records.specs.Reading.{blank_year, refused, bad_length, read_list};
+ghost use Rattle.records.specs.Reading.{blank_year, add_term, add_course, refusal, bad_length, read_list};
 ghost use Rattle.records.specs.Writing.{write_answer, written};
 
-use year::{Course, Term, Year, by_hand, sound};
+use year::{Course, Term, Year, sound, summing};
 
 // What is wrong with a byte string: the paper's refusals 1 to 7.
-#[derive(Clone, Copy)]
+#[derive(Clone, Copy, PartialEq, Eq)]
 pub enum Fault {
     Length,
     Letter,
@@ -25,38 +26,30 @@ pub enum Fault {
     Padding,
 }
 
-// What a record holds as a term's, and as a course's.
-#[derive(Clone, Copy)]
-pub enum AsTerm {
-    Good(Term),
-    Faulty(Fault),
+// Why a list was refused: its first fault, with its record's place.
+#[derive(Clone, Copy, PartialEq, Eq)]
+pub struct Refusal {
+    pub fault: Fault,
+    pub record: usize,
 }
 
-#[derive(Clone, Copy)]
-pub enum AsCourse {
-    Good(Course),
-    Faulty(Fault),
-}
-
-// How a reading ended: done, or refused by the first fault, with its record's place.
-#[derive(Clone, Copy)]
-pub enum Reading {
-    Done,
-    Refused(Fault, usize),
-}
-
-#[derive(Clone, Copy)]
-pub struct Received {
-    pub answer: Reading,
-    pub year: Year,
-}
-
-// How a writing ended: done, or refused by 8 or 9.
-#[derive(Clone, Copy)]
-pub enum Writing {
-    Done,
+// Why a year was not written: refusals 8 and 9.
+#[derive(Clone, Copy, PartialEq, Eq)]
+pub enum WritingRefusal {
     Unsound,
     Short,
+}
+
+impl Fault {
+    // A list whose record k has the fault.
+    pub fn at(self, k: usize) -> Refusal
+        ensures { result ≡ refusal self k }
+    {
+        Refusal {
+            fault: self,
+            record: k,
+        }
+    }
 }
 
 // The bytes of a record, and of the longest list: that of the largest year.
@@ -71,8 +64,8 @@ pub const COURSE_LETTER: u8 = 67;
 
 // The paper's number of a fault.
 pub fn fault_number(f: Fault) -> u32
-    ensures value { result ≡ fault_number f }
-    ensures upper_bound { result < 256 }
+    ensures number { result ≡ fault_number f }
+    ensures fits_a_byte { result < 256 }
 {
     match f {
         Fault::Length => 1,
@@ -85,81 +78,78 @@ pub fn fault_number(f: Fault) -> u32
     }
 }
 
-// What a refused reading hands back.
-pub fn refused(f: Fault, k: usize) -> Received
-    ensures { result ≡ refused f k }
-{
-    let y = Year::empty();
-    Received {
-        answer: Reading::Refused(f, k),
-        year: y,
-    }
-}
-
 // The year before its first record.
 pub fn blank() -> Year
     ensures { result ≡ blank_year }
 {
-    let mut y = Year::empty();
-    y.terms = 0;
-    y
+    Year {
+        terms: 0,
+        ..Year::empty()
+    }
+}
+
+// One term more, and one course more.
+pub fn add_term(y: &mut Year, t: Term)
+    requires room { y.old.terms < 16 }
+    ensures { y.new ≡ add_term y.old t }
+{
+    y.term[y.terms] = t;
+    y.terms += 1;
+}
+
+pub fn add_course(y: &mut Year, c: Course)
+    requires room { y.old.courses < 64 }
+    ensures { y.new ≡ add_course y.old c }
+{
+    y.weight[y.courses] = c.weight.0;
+    y.list[y.courses] = c.list;
+    y.courses += 1;
+}
+
+// The year with the sums over its lists.
+pub fn sum_up(y: &mut Year)
+    requires sizes { (y.old.terms ≤ 16) × (y.old.courses ≤ 64) }
+    requires each_course { (i : ℕ) → i < y.old.courses
+        → (get_or y.old.weight i 0 ≤ 1000) × (get_or y.old.list i 0 < 2 ^ y.old.terms) }
+    ensures { y.new ≡ with_sums y.old }
+{
+    y.sums = summing::sums_over(&y.weight, &y.list, y.terms, y.courses);
 }
 
 pub fn bad_length(n: usize) -> bool
     ensures { result ≡ bad_length n }
 {
-    (n == 0) | (LONGEST < n) | (n % RECORD != 0)
+    n == 0 || LONGEST < n || n % RECORD != 0
 }
 
 // Reads a year from any byte string. Terms come first, and one at least; courses are asked for first, since a list has more of them.
-pub fn read(s: &[u8]) -> Received
-    ensures { result ≡ read_list s.now }
+pub fn read(list: &[u8]) -> Result<Year, Refusal>
+    ensures { result ≡ read_list list.now }
 {
-    let n = s.len();
-    if bad_length(n) {
-        return refused(Fault::Length, 0);
+    if bad_length(list.len()) {
+        return Err(Fault::Length.at(0));
     }
     let mut y = blank();
-    for k in 0..n / RECORD {
+    for k in 0..list.len() / RECORD {
         let at = k * RECORD;
-        if (s[at] == COURSE_LETTER) & (1 <= y.terms) {
-            match entries::read_course(s, at, y.courses, y.terms) {
-                AsCourse::Good(c) => {
-                    let i = y.courses;
-                    y.weight[i] = c.weight.0;
-                    y.list[i] = c.list;
-                    y.courses = i + 1;
-                }
-                AsCourse::Faulty(f) => {
-                    return refused(f, k);
-                }
-            }
-        } else if (s[at] == TERM_LETTER) & (y.courses == 0) {
-            match entries::read_term(s, at, y.terms) {
-                AsTerm::Good(t) => {
-                    let j = y.terms;
-                    y.term[j] = t;
-                    y.terms = j + 1;
-                }
-                AsTerm::Faulty(f) => {
-                    return refused(f, k);
-                }
-            }
+        if list[at] == COURSE_LETTER && 1 <= y.terms {
+            let c = entries::read_course(list, at, y.courses, y.terms).map_err(|f| f.at(k))?;
+            add_course(&mut y, c);
+        } else if list[at] == TERM_LETTER && y.courses == 0 {
+            let t = entries::read_term(list, at, y.terms).map_err(|f| f.at(k))?;
+            add_term(&mut y, t);
         } else {
-            return refused(Fault::Letter, k);
+            return Err(Fault::Letter.at(k));
         }
     }
-    let z = by_hand::with_sums(y);
-    Received {
-        answer: Reading::Done,
-        year: z,
-    }
+    sum_up(&mut y);
+    Ok(y)
 }
 
 // Writes the records of a year that is known to be sound into the front of a buffer that is known to have room for them.
 pub fn write_sound(y: Year, buf: &mut [u8])
     requires sound { Sound y }
-    requires courses_in_bounds { (y.terms + y.courses) * 16 ≤ length buf.old }
+    requires room { (y.terms + y.courses) * 16 ≤ length buf.old }
     ensures { buf.new ≡ written y buf.old }
 {
     blocks::put_terms(y, buf);
@@ -167,16 +157,16 @@ pub fn write_sound(y: Year, buf: &mut [u8])
 }
 
 // Writes the records of a sound year into the front of a buffer that has room for them.
-pub fn write(y: Year, buf: &mut [u8]) -> Writing
-    ensures value { result ≡ write_answer y (length buf.old) }
+pub fn write(y: Year, buf: &mut [u8]) -> Result<(), WritingRefusal>
+    ensures answer { result ≡ write_answer y (length buf.old) }
     ensures buf_after { buf.new ≡ written y buf.old }
 {
     if !sound::is_sound(y) {
-        return Writing::Unsound;
+        return Err(WritingRefusal::Unsound);
     }
     if buf.len() < (y.terms + y.courses) * RECORD {
-        return Writing::Short;
+        return Err(WritingRefusal::Short);
     }
     write_sound(y, buf);
-    Writing::Done
+    Ok(())
 }

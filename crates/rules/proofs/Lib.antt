@@ -21,6 +21,7 @@ pub mod RulesHeld
 pub mod ListsKept
 pub mod ThresholdLaws
 pub mod Passes
+pub mod RuleNumberLaws
 pub mod Named
 pub mod Rest
 pub mod Moved

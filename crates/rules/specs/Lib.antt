@@ -1,4 +1,5 @@
 -- To be believed: the twelve rules of a round, family by family, and what each step of them rests on. Computing alone is inner.
+pub mod RuleNumbers
 pub mod Step
 pub mod Bounds
 pub mod Lists

@@ -20,8 +20,8 @@ pub fn list<R: Read, W: Write>(input: &mut R, output: &mut W) -> io::Result<()>
     let mut bytes = [0u8; ROOM];
     let n = fill(input, &mut bytes)?;
     let mut text = [0u8; display::LONGEST];
-    let a = display::listing(&bytes[..n], &mut text);
-    output.write_all(display::front(&text, a))
+    let answer = display::listing(&bytes[..n], &mut text);
+    output.write_all(display::front(&text, answer))
 }
 
 // Reads until the buffer is full or the input ends, and answers how many bytes stand at the buffer's front.
@@ -30,6 +30,7 @@ fn fill<R: Read>(input: &mut R, buf: &mut [u8]) -> io::Result<usize>
     ensures bytes { IfOk result (λ n. Consumes (R.remaining input.old) (R.remaining input.new) (take n buf.new)) }
     ensures end { IfOk result (λ n. n < length buf.new → IsAtEnd (R.remaining input.new)) }
 {
+    // Only a read tells how far the next one begins, so no `for` counts.
     let mut done = 0;
     while done < buf.len() {
         let n = input.read(&mut buf[done..])?;

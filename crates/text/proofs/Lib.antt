@@ -1,3 +1,4 @@
 -- Laws about texts.
 pub mod TextLaws
 pub mod LengthLaws
+pub mod DigitLaws

@@ -1,57 +1,30 @@
 -- One text behind another is one text; how long texts are; and what one number or term more adds.
 use Prim.Native.Nat.{ℕ, zero, suc, ◌+◌, ◌-◌, ◌≤◌, ◌<◌}
-use native.Mathlib.Nat.{add_assoc}
 use native.Mathlib.Numerals.{add-one}
 use native.Mathlib.Omega.{arith}
 use mathlib.Core.Bool.{Bool, true, false, ◌||◌}
 use mathlib.Core.List.{List, [], ◌∷◌, ◌++◌, append_assoc, append-nil}
-use mathlib.Core.Path.{◌≡◌, refl, ap, ap₂, sym, ◌∙◌}
-use lib.ListN.{length, take, drop, get_or, length-append, length-drop}
-use lib.Seq.{paste, paste-zero, take_all, take-length, take-paste, drop-paste, drop-drop, take-suc}
+use mathlib.Core.Path.{◌≡◌, refl, ap, sym, ◌∙◌}
+use lib.ListN.{length, take, get_or, length-append}
+use lib.Seq.{take-length, take-suc}
 use Rattle.theory.specs.Bits.{has}
 use Rattle.theory.specs.Choice.{choose}
-use Rattle.text.specs.Text.{comma, ten_of, places_of, decimal_of, numbered_of, numbers_of, terms_to, commas_of}
-use Rattle.text.specs.Put.{Put, comma_of, piece_of}
+use Rattle.text.specs.Text.{comma, decimal_of, numbered_of, numbers_of, terms_to, commas_of}
+use Rattle.text.specs.Page.{Room, comma_of, piece_of}
 
--- ---- texts in a buffer
-
-paste_append : (d : List ℕ) (at : ℕ) (s t : List ℕ) → at + length s + length t ≤ length d → paste (paste d at s (length s)) (at + length s) t (length t) ≡ paste d at (s ++ t) (length (s ++ t))
-paste_append d at s t h =
-    ap₂ ◌++◌ (ap₂ ◌++◌ front (take-length t) ∙ append_assoc (take at d) s t) back
-    ∙ sym (ap₂ ◌++◌ (ap (λ (l : List ℕ). take at d ++ l) (take-length (s ++ t))) refl)
-  where
-    front : take (at + length s) (paste d at s (length s)) ≡ take at d ++ s
-    front =
-        take-paste d at s (length s) (omega arith) (omega arith) ∙ ap (λ (l : List ℕ). take at d ++ l) (take-length s)
-
-    back : drop (at + length s + length t) (paste d at s (length s)) ≡ drop (at + length (s ++ t)) d
-    back =
-        sym (drop-drop (length t) (at + length s) (paste d at s (length s)))
-        ∙ ap (λ (l : List ℕ). drop (length t) l) (drop-paste d at s (length s) (omega arith) (omega arith))
-        ∙ drop-drop (length t) (at + length s) d
-        ∙ ap (λ (k : ℕ). drop k d) (add_assoc at (length s) (length t) ∙ ap (λ (k : ℕ). at + k) (sym (length-append s t)))
-
--- nothing is written by leaving the buffer as it is
-pub put_nothing : (d : List ℕ) (at : ℕ) → Put d at [] d at
-put_nothing d at = record { next = omega arith; wrote = paste-zero d at []; long = refl }
+-- ---- texts behind a page's text d
 
 -- one text behind another
-pub puts : {d d' d'' s t : List ℕ} {at r r' : ℕ} → Put d at s d' r → Put d' r t d'' r' → at + length (s ++ t) ≤ length d → Put d at (s ++ t) d'' r'
-puts {d} {d'} {d''} {s} {t} {at} {r} {r'} p q h = record {
-  next = omega (arith, p.next, q.next, length-append s t);
-  wrote = q.wrote
-      ∙ ap₂ (λ (l : List ℕ) (k : ℕ). paste l k t (length t)) p.wrote p.next
-      ∙ paste_append d at s t (omega (arith, length-append s t));
-  long = q.long ∙ p.long;
-}
+pub puts : (d s t : List ℕ) {d' d'' : List ℕ} → d' ≡ d ++ s → d'' ≡ d' ++ t → d'' ≡ d ++ (s ++ t)
+puts d s t p q = q ∙ ap (λ (l : List ℕ). l ++ t) p ∙ append_assoc d s t
 
--- room for both is room for the second behind the first
-pub room : {d d' s : List ℕ} {at r : ℕ} (t : List ℕ) → Put d at s d' r → at + length (s ++ t) ≤ length d → r + length t ≤ length d'
-room {d} {d'} {s} {at} {r} t p h = omega (arith, p.next, p.long, length-append s t)
+-- room for both is room for the first
+pub room_first : (d s t : List ℕ) → Room d (s ++ t) → Room d s
+room_first d s t h = omega (arith, length-append s t)
 
--- and for the first
-pub room_first : (d : List ℕ) (at : ℕ) (s t : List ℕ) → at + length (s ++ t) ≤ length d → at + length s ≤ length d
-room_first d at s t h = omega (arith, length-append s t)
+-- and for the second behind it
+pub room : (d s t : List ℕ) {d' : List ℕ} → d' ≡ d ++ s → Room d (s ++ t) → Room d' t
+room d s t p h = omega (arith, length-append s t, length-append d s, ap length p)
 
 -- ---- a text that grows piece by piece, as in a loop: text k, and piece k behind it, for each k below n
 
@@ -61,26 +34,17 @@ module _ (text piece : ℕ → List ℕ) (n : ℕ) (more : (k : ℕ) → k < n �
   grows (suc left) k e =
       omega (arith, grows left (k + 1) (omega arith), ap length (more k (omega arith)), length-append (text k) (piece k))
 
-  -- room for the whole text is room up to the next piece
-  room_to : (d : List ℕ) (at k : ℕ) → k < n → at + length (text n) ≤ length d → at + length (text k ++ piece k) ≤ length d
-  room_to d at k l h = omega (arith, grows (n - (k + 1)) (k + 1) (omega arith), ap length (more k l))
-
-  -- and for that piece
-  pub turn_room : {d d' : List ℕ} {at r : ℕ} (k : ℕ) → k < n → at + length (text n) ≤ length d → Put d at (text k) d' r → r + length (piece k) ≤ length d'
-  turn_room {d} {d'} {at} {r} k l h p = room (piece k) p (room_to d at k l h)
+  -- room for the whole text is room for the next piece
+  pub turn_room : (d : List ℕ) {d' : List ℕ} (k : ℕ) → k < n → d' ≡ d ++ text k → Room d (text n) → Room d' (piece k)
+  turn_room d k l p h =
+      let all = grows (n - (k + 1)) (k + 1) (omega arith) in
+      room d (text k) (piece k) p (omega (arith, all, ap length (more k l)))
 
   -- one piece more
-  pub turn : {d d' d'' : List ℕ} {at r r' : ℕ} (k : ℕ) → k < n → at + length (text n) ≤ length d → Put d at (text k) d' r → Put d' r (piece k) d'' r' → Put d at (text (k + 1)) d'' r'
-  turn {d} {d'} {d''} {at} {r} {r'} k l h p q = rw (more k l) (puts p q (room_to d at k l h))
+  pub turn : (d : List ℕ) {d' d'' : List ℕ} (k : ℕ) → k < n → d' ≡ d ++ text k → d'' ≡ d' ++ piece k → d'' ≡ d ++ text (k + 1)
+  turn d k l p q = puts d (text k) (piece k) p q ∙ ap (λ (t : List ℕ). d ++ t) (sym (more k l))
 
 -- ---- numbers
-
--- the part that `number` lends
-pub part_is : (n p : ℕ) (t : List ℕ) → t ≡ ten_of n → p ≡ places_of n → take (10 - (10 - p)) (drop (10 - p) t) ≡ decimal_of n
-unfolding decimal_of
-part_is n p t e q =
-    rw (e, q)
-    (take_all (10 - (10 - places_of n)) (drop (10 - places_of n) (ten_of n)) (omega (arith, length-drop (10 - places_of n) (ten_of n))))
 
 numbers_append : (ns : List ℕ) (n : ℕ) → numbers_of (ns ++ n ∷ []) ≡ numbers_of ns ++ numbered_of n
 unfolding numbers_of
@@ -136,6 +100,15 @@ terms_more l j h = rw (add-one j) (go (has l j))
     go : (b : Bool) → commas_of (choose b (ts ++ j ∷ []) ts) ≡ commas_of ts ++ choose b (comma_of (some_of ts) ++ decimal_of j) []
     go true = commas_append ts j
     go false = sym (append-nil (commas_of ts))
+
+-- what one term adds, by whether the list names it
+pub piece_named : (some : Bool) (l j : ℕ) → has l j ≡ true → piece_of some l j ≡ comma_of some ++ decimal_of j
+unfolding piece_of
+piece_named some l j e = rw e refl
+
+pub piece_none : (some : Bool) (l j : ℕ) → has l j ≡ false → piece_of some l j ≡ []
+unfolding piece_of
+piece_none some l j e = rw e refl
 
 pub some_more : (l j : ℕ) → some_of (terms_to l (j + 1)) ≡ some_of (terms_to l j) || has l j
 unfolding terms_to

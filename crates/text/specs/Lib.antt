@@ -1,4 +1,4 @@
--- To be believed: numbers in decimal, lines, and terms with commas, as lists of bytes. Put alone is inner.
+-- To be believed: numbers in decimal, lines, and terms with commas, as lists of bytes. Page alone is inner.
 pub mod Text
-pub mod Put
+pub mod Page
 pub mod Examples

@@ -1,173 +1,139 @@
-// Text into a lent buffer: bytes, numbers in decimal, lines, and terms with commas. Each is written from a place on; the result is the place behind it.
+// Text in fixed memory: bytes, numbers in decimal, lines, and terms with commas, each put behind the text so far.
 #![tactic(auto)]
 
-ghost use Rattle.std.specs.Prelude.{◌≡◌, ◌+◌, ◌<◌, ◌≤◌, length};
-ghost use Rattle.text.specs.Text.{digit_of, ten_of, places_of, decimal_of, numbered_of, numbers_of, row_of, line_of, terms_of};
-ghost use Rattle.text.specs.Put.{Put, comma_of, piece_of};
+ghost use Rattle.std.specs.Prelude.{◌≡◌, ℕ, ◌<◌, ◌≤◌, List, [], ◌++◌, take};
+ghost use Rattle.text.specs.Text.{decimal_of, numbered_of, numbers_of, row_of, line_of, terms_of};
+ghost use Rattle.text.specs.Page.{Room, comma_of, piece_of};
 
+use std::marker::Model;
 use year::Year;
 
-// The digits of the largest number.
-const DIGITS: usize = 10;
-
-// Bytes as they are.
-pub fn put(buf: &mut [u8], at: usize, s: &[u8]) -> usize
-    requires { at + length s.now ≤ length buf.old }
-    ensures { Put buf.old at s.now buf.new result }
-{
-    let mut k = 0;
-    while k < s.len() {
-        buf[at + k] = s[k];
-        k += 1;
-    }
-    at + k
+// A text in fixed memory that grows at its end.
+#[derive(Drop)]
+pub struct Page {
+    bytes: [u8; Page::ROOM],
+    end: usize,
 }
 
-// How many digits a number has.
-fn places(n: u32) -> usize
-    ensures value { result ≡ places_of n }
-    ensures upper_bound { result ≤ 10 }
-{
-    if n < 10 {
-        return 1;
-    }
-    if n < 100 {
-        return 2;
-    }
-    if n < 1000 {
-        return 3;
-    }
-    if n < 10000 {
-        return 4;
-    }
-    if n < 100000 {
-        return 5;
-    }
-    if n < 1000000 {
-        return 6;
-    }
-    if n < 10000000 {
-        return 7;
-    }
-    if n < 100000000 {
-        return 8;
-    }
-    if n < 1000000000 {
-        return 9;
-    }
-    10
+// Clauses see the text so far.
+impl Model for Page {
+    ghost Value = { List ℕ };
+
+    ghost view = { λ p. take p.end p.bytes };
+
+    ghost invariant = { λ p. p.end ≤ 3436 };
 }
 
-// The last digit of a number.
-fn digit(n: u32) -> u8
-    ensures { result ≡ digit_of n }
-{
-    48 + (n % 10) as u8
-}
+impl Page {
+    // As many bytes as the longest listing may have.
+    pub const ROOM: usize = 3436;
 
-// Ten digits, zeros in front.
-fn ten(n: u32) -> [u8; DIGITS]
-    ensures { result ≡ ten_of n }
-{
-    [
-        digit(n / 1000000000),
-        digit(n / 100000000),
-        digit(n / 10000000),
-        digit(n / 1000000),
-        digit(n / 100000),
-        digit(n / 10000),
-        digit(n / 1000),
-        digit(n / 100),
-        digit(n / 10),
-        digit(n),
-    ]
-}
-
-// A number in decimal.
-pub fn number(buf: &mut [u8], at: usize, n: u32) -> usize
-    requires { at + length (decimal_of n) ≤ length buf.old }
-    ensures { Put buf.old at (decimal_of n) buf.new result }
-{
-    let digits = ten(n);
-    let from = DIGITS - places(n);
-    put(buf, at, &digits[from..])
-}
-
-// A number behind a blank.
-fn numbered(buf: &mut [u8], at: usize, n: u32) -> usize
-    requires { at + length (numbered_of n) ≤ length buf.old }
-    ensures { Put buf.old at (numbered_of n) buf.new result }
-{
-    let a = put(buf, at, b" ");
-    number(buf, a, n)
-}
-
-// Numbers, each behind a blank.
-fn numbers(buf: &mut [u8], at: usize, ns: &[u32]) -> usize
-    requires { at + length (numbers_of ns.now) ≤ length buf.old }
-    ensures { Put buf.old at (numbers_of ns.now) buf.new result }
-{
-    let mut end = at;
-    let mut k = 0;
-    while k < ns.len() {
-        end = numbered(buf, end, ns[k]);
-        k += 1;
+    pub fn new() -> Self
+        ensures { result ≡ [] }
+    {
+        Page {
+            bytes: [0; Page::ROOM],
+            end: 0,
+        }
     }
-    end
-}
 
-// A word and numbers behind it.
-pub fn row(buf: &mut [u8], at: usize, word: &[u8], ns: &[u32]) -> usize
-    requires { at + length (row_of word.now ns.now) ≤ length buf.old }
-    ensures { Put buf.old at (row_of word.now ns.now) buf.new result }
-{
-    let a = put(buf, at, word);
-    numbers(buf, a, ns)
-}
-
-// The same as a whole line.
-pub fn line(buf: &mut [u8], at: usize, word: &[u8], ns: &[u32]) -> usize
-    requires { at + length (line_of word.now ns.now) ≤ length buf.old }
-    ensures { Put buf.old at (line_of word.now ns.now) buf.new result }
-{
-    let a = row(buf, at, word, ns);
-    put(buf, a, b"\n")
-}
-
-// A comma, where some term stands before.
-fn comma(buf: &mut [u8], at: usize, some: bool) -> usize
-    requires { at + length (comma_of some) ≤ length buf.old }
-    ensures { Put buf.old at (comma_of some) buf.new result }
-{
-    if !some {
-        return at;
+    // All that was put.
+    pub fn text(&self) -> &[u8]
+        ensures { result.now ≡ self.now }
+    {
+        &self.bytes[..self.end]
     }
-    put(buf, at, b",")
-}
 
-// Term j, where the list names it.
-fn piece(buf: &mut [u8], at: usize, some: bool, list: u16, j: usize) -> usize
-    requires j_bound { j < 16 }
-    requires j_in_bounds { at + length (piece_of some list j) ≤ length buf.old }
-    ensures { Put buf.old at (piece_of some list j) buf.new result }
-{
-    if (list >> j) % 2 != 1 {
-        return at;
+    // Bytes as they are.
+    pub fn put(&mut self, s: &[u8])
+        requires { Room self.old s.now }
+        ensures { self.new ≡ self.old ++ s.now }
+    {
+        let end = self.end + s.len();
+        self.bytes[self.end..end].copy_from_slice(s);
+        self.end = end;
     }
-    let a = comma(buf, at, some);
-    number(buf, a, j as u32)
-}
 
-// The terms of a list, a bit each, with commas between them.
-pub fn terms(buf: &mut [u8], at: usize, list: u16) -> usize
-    requires { at + length (terms_of list) ≤ length buf.old }
-    ensures { Put buf.old at (terms_of list) buf.new result }
-{
-    let mut end = at;
-    let mut some = false;
-    for j in 0..Year::TERMS {
-        end = piece(buf, end, some, list, j);
-        some = some | ((list >> j) % 2 == 1);
+    // A number in decimal: the digits before the last, and the last.
+    // By hand (tried): `write!` tells its bytes after an Ok alone, and never that it is Ok, and a page with room must not fail.
+    pub fn number(&mut self, n: u32)
+        requires { Room self.old (decimal_of n) }
+        ensures { self.new ≡ self.old ++ decimal_of n }
+    {
+        if n >= 10 {
+            self.number(n / 10);
+        }
+        self.put(&[b'0' + (n % 10) as u8]);
     }
-    end
+
+    // A number behind a blank.
+    fn numbered(&mut self, n: u32)
+        requires { Room self.old (numbered_of n) }
+        ensures { self.new ≡ self.old ++ numbered_of n }
+    {
+        self.put(b" ");
+        self.number(n);
+    }
+
+    // Numbers, each behind a blank.
+    fn numbers(&mut self, ns: &[u32])
+        requires { Room self.old (numbers_of ns.now) }
+        ensures { self.new ≡ self.old ++ numbers_of ns.now }
+    {
+        for n in ns {
+            self.numbered(*n);
+        }
+    }
+
+    // A word and numbers behind it.
+    pub fn row(&mut self, word: &[u8], ns: &[u32])
+        requires { Room self.old (row_of word.now ns.now) }
+        ensures { self.new ≡ self.old ++ row_of word.now ns.now }
+    {
+        self.put(word);
+        self.numbers(ns);
+    }
+
+    // The same as a whole line.
+    pub fn line(&mut self, word: &[u8], ns: &[u32])
+        requires { Room self.old (line_of word.now ns.now) }
+        ensures { self.new ≡ self.old ++ line_of word.now ns.now }
+    {
+        self.row(word, ns);
+        self.put(b"\n");
+    }
+
+    // A comma, where some term stands before.
+    fn comma(&mut self, some: bool)
+        requires { Room self.old (comma_of some) }
+        ensures { self.new ≡ self.old ++ comma_of some }
+    {
+        if some {
+            self.put(b",");
+        }
+    }
+
+    // Term j, where the list names it.
+    fn piece(&mut self, some: bool, list: u16, j: usize)
+        requires term { j < 16 }
+        requires room { Room self.old (piece_of some list j) }
+        ensures { self.new ≡ self.old ++ piece_of some list j }
+    {
+        if (list >> j) % 2 == 1 {
+            self.comma(some);
+            self.number(j as u32);
+        }
+    }
+
+    // The terms of a list, a bit each, with commas between them.
+    pub fn terms(&mut self, list: u16)
+        requires { Room self.old (terms_of list) }
+        ensures { self.new ≡ self.old ++ terms_of list }
+    {
+        let mut some = false;
+        for j in 0..Year::TERMS {
+            self.piece(some, list, j);
+            some |= (list >> j) % 2 == 1;
+        }
+    }
 }

@@ -8,29 +8,21 @@ ghost use Rattle.year.specs.Sound.{Sound};
 ghost use Rattle.year.specs.SumsOf.{none_open};
 ghost use Rattle.year.specs.Sums.{is_placed, all_placed, all_credits};
 
-use year::{Course, Credits, Sums, Year, pairs};
+use year::{Course, Credits, Sums, Year};
 
 // The course has one term.
 pub fn is_placed(c: Course) -> bool
     ensures { result ≡ is_placed c }
 {
-    let mut found = false;
-    for k in 0..Year::TERMS {
-        found = found | pairs::is_fixed(c, k);
-    }
-    found
+    c.list.is_power_of_two()
 }
 
 // No course is open in any of the first terms.
-pub fn none_open(terms: usize, sums: [Sums; Year::TERMS]) -> bool
+pub fn none_open(terms: usize, sums: &[Sums; Year::TERMS]) -> bool
     requires { terms ≤ 16 }
-    ensures { result ≡ none_open terms sums }
+    ensures { result ≡ none_open terms sums.now }
 {
-    let mut none = true;
-    for k in 0..terms {
-        none = none & (sums[k].free.0 == 0);
-    }
-    none
+    sums[..terms].iter().all(|s| s.free.0 == 0)
 }
 
 // Every course has one term: none is open in any.
@@ -38,8 +30,7 @@ pub fn all_placed(y: Year) -> bool
     requires { Sound y }
     ensures { result ≡ all_placed y }
 {
-    let sums = y.sums;
-    none_open(y.terms, sums)
+    none_open(y.terms, &y.sums)
 }
 
 // All credits of the year.
@@ -48,8 +39,8 @@ pub fn all_credits(y: Year) -> Credits
     ensures { result.0 ≡ all_credits y }
 {
     let mut total = Credits(0);
-    for i in 0..y.courses {
-        total.0 += y.weight[i];
+    for weight in &y.weight[..y.courses] {
+        total.0 += *weight;
     }
     total
 }

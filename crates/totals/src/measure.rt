@@ -7,7 +7,7 @@ ghost use Rattle.year.specs.Sound.{Sound};
 ghost use Rattle.year.specs.Sums.{fixed_credits};
 ghost use Rattle.year.specs.Imbalance.{fits, fits_at, imbalance_of};
 
-use year::{Credits, Measured, Sums, Term, Year, sound};
+use year::{Credits, ImbalanceRefusal, Sums, Term, Year};
 
 // The sums are within the term's bounds.
 fn fits(t: Term, s: Sums) -> bool
@@ -20,9 +20,9 @@ fn fits(t: Term, s: Sums) -> bool
 }
 
 // What is fixed in each term is within its bounds.
-fn all_fit(y: Year) -> bool
-    requires { Sound y }
-    ensures { result ≡ all y.terms (fits_at y) }
+fn all_fit(y: &Year) -> bool
+    requires { Sound y.now }
+    ensures { result ≡ all y.now.terms (fits_at y.now) }
 {
     let mut good = true;
     for k in 0..y.terms {
@@ -39,21 +39,20 @@ struct Loads {
 }
 
 // What is fixed in the terms of a year.
-fn loads_of(y: Year) -> Loads
-    requires { Sound y }
-    ensures { (result.all.0 ≡ sum y.terms (fixed_credits y)) × (result.squares ≡ sum y.terms (λ k. square (fixed_credits y k))) }
+fn loads_of(y: &Year) -> Loads
+    requires { Sound y.now }
+    ensures all { result.all.0 ≡ sum y.now.terms (fixed_credits y.now) }
+    ensures squares { result.squares ≡ sum y.now.terms (λ k. square (fixed_credits y.now k)) }
 {
     let mut all = Credits(0);
     let mut squares: u64 = 0;
     for k in 0..y.terms {
         let x = y.sums[k].fixed.0;
         all.0 += x;
-        squares += x as u64 * x as u64;
+        let wide = u64::from(x);
+        squares += wide * wide;
     }
-    Loads {
-        all: all,
-        squares: squares,
-    }
+    Loads { all, squares }
 }
 
 // Terms times the sum of squared term credits, less the square of all credits.
@@ -61,30 +60,27 @@ fn difference(terms: usize, l: Loads) -> u64
     requires { (terms ≤ 16) × (l.all.0 ≤ 64000) × (l.squares ≤ square l.all.0) × (square l.all.0 ≤ terms * l.squares) }
     ensures { result ≡ terms * l.squares - square l.all.0 }
 {
-    let all = l.all.0 as u64;
+    let all = u64::from(l.all.0);
     terms as u64 * l.squares - all * all
 }
 
 // The imbalance of a sound year as it stands.
-pub fn imbalance_sound(y: Year) -> Measured
+pub fn imbalance_sound(y: Year) -> Result<u64, ImbalanceRefusal>
     requires { Sound y }
     ensures { result ≡ imbalance_of y }
 {
-    if !crate::all_placed(y) {
-        return Measured::Unsettled;
+    if !crate::all_placed(y) || !all_fit(&y) {
+        return Err(ImbalanceRefusal::Unsettled);
     }
-    if all_fit(y) {
-        return Measured::Imbalance(difference(y.terms, loads_of(y)));
-    }
-    Measured::Unsettled
+    Ok(difference(y.terms, loads_of(&y)))
 }
 
 // The imbalance of the year as it stands.
-pub fn imbalance(y: Year) -> Measured
+pub fn imbalance(y: Year) -> Result<u64, ImbalanceRefusal>
     ensures { result ≡ imbalance_of y }
 {
-    if !sound::is_sound(y) {
-        return Measured::Unsound;
+    if !y.is_sound() {
+        return Err(ImbalanceRefusal::Unsound);
     }
     imbalance_sound(y)
 }

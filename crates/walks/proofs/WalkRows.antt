@@ -1,137 +1,188 @@
--- Rules 6 to 9 one after another, on the bounds alone: what each walk asks of a state, and what each rule leaves.
-use Prim.Native.Nat.{ℕ, ◌≤◌, ◌<◌}
+-- Rules 6 to 9 over the terms of a state: what each walk begins with, what a turn at a term leaves, and what stays behind a rule.
+-- `walk_rule` cites `set_up` and `order_at` for what `by_walk` asks, `walk_turn` where the loop goes on and `walk_stop` where it ends;
+-- rules in a row cite `after` and `asked`.
+use Prim.Native.Nat.{ℕ, ◌+◌, ◌≤◌, ◌<◌}
 use mathlib.Core.Bool.{false}
 use mathlib.Core.List.{List}
-use mathlib.Core.Path.{◌≡◌, sym, ap, ap₂, subst, ◌∙◌}
+use mathlib.Core.Path.{◌≡◌, refl, sym, ap, ap₂, subst, ◌∙◌}
+use native.Mathlib.Nat.{le_refl}
 use native.Mathlib.Omega.{arith}
-use lib.ListN.{length, get_or, take}
+use lib.ListN.{length, get_or, set, take}
+use lib.Seq.{get_or-set_same}
+use Rattle.std.specs.Prelude.{Option, Some, None, Result, Ok, Err}
 use Rattle.theory.specs.Tab.{tab}
-use Rattle.year.specs.Year.{term_at}
+use Rattle.year.specs.Year.{term_at, zero_term}
 use Rattle.year.specs.Sums.{fixed_credits, open_credits, fixed_count, open_count, sums_at, sums_in}
 use Rattle.year.specs.SumsOf.{sums_to}
-use Rattle.year.specs.Sound.{Sound, TermSound}
+use Rattle.year.specs.Sound.{Sound}
 use Rattle.year.specs.declared.Quantity.TheVariants.{Credits, Counts}
-use Rattle.year.specs.declared.Sums.{Sums}
+use Rattle.year.specs.declared.Term.{Term}
 use Rattle.year.specs.declared.Year.{Year}
 use Rattle.year.proofs.SumLaws.{sums_read}
-use Rattle.rules.specs.Step.{Step, over_terms}
-use Rattle.rules.specs.Spares.{spares, walk_of, down, up, least_count, most_count, least_load, most_load, rule6, rule7, rule8, rule9}
+use Rattle.rules.specs.Step.{Step, joined, over_to, over_terms}
+use Rattle.rules.specs.Narrower.{Narrower}
+use Rattle.rules.specs.Spares.{spares, walk_of, least_count, most_count, least_load, most_load}
+use Rattle.rules.specs.declared.Rule.{Rule}
 use Rattle.rules.proofs.PlansKept.{Held}
 use Rattle.rules.proofs.KeptOver.{AtTerms}
+use Rattle.rules.proofs.Narrows.{Narrows}
 use Rattle.rules.proofs.RulesHeld.{rule6_held, rule7_held, rule8_held, rule9_held}
-use Rattle.frame.specs.State.{year_in, step_in}
-use Rattle.frame.specs.Bounds.{put, bounds_over, term_in}
+use Rattle.frame.specs.State.{year_in, step_in, step_of}
+use Rattle.frame.specs.Bounds.{Outcome, put, put_told, term_in, least_in, told, Fits}
 use Rattle.frame.specs.declared.State.{State}
-use Rattle.frame.specs.declared.Bounds.{Bounds}
-use Rattle.frame.proofs.BoundsOnly.{BoundsOnly}
+use Rattle.frame.proofs.BoundsOnly.{BoundsOnly, only_over}
 use Rattle.frame.proofs.Moves.{raise_move, lower_move}
-use Rattle.frame.proofs.BoundsAt.{BoundsAt, at_long, at_sound, at_next}
+use Rattle.frame.proofs.StateLaws.{all_sound}
+use Rattle.frame.proofs.TermsAt.{narrower_at, turn, stop}
+use Rattle.frame.proofs.ToldLaws.{told_fits, turn_told, turn_terms}
 use Rattle.orders.specs.Orders.{orders_of}
 use Rattle.orders.specs.declared.Orders.{Orders}
 use Rattle.orders.proofs.OrderLaws.{OrderFits, down_fits, up_fits, orders_weights}
-use Rattle.walks.specs.Sparing.{tallies_of}
-use Rattle.walks.specs.Walking.{walk_over, begun_of, until_of, ended_of, walked_at}
+use Rattle.walks.specs.Sparing.{tallies_of, spare_from}
+use Rattle.walks.specs.Walking.{walk_over, reached, begun_of, until_of, ended_of, rule_of, order_of, walked_at}
 use Rattle.walks.specs.declared.Tallies.{Tallies}
+use Rattle.walks.specs.declared.Walk.{Walk}
 use Rattle.walks.specs.declared.WalkRule.{WalkRule}
 use Rattle.walks.specs.declared.WalkRule.TheVariants.{LeastCount, MostCount, LeastLoad, MostLoad}
-use Rattle.walks.proofs.SparingLaws.{spares_are}
+use Rattle.walks.proofs.SparingLaws.{spares_from, spares_are, low_counts_set}
+use Rattle.walks.proofs.WalkLaws.{ended_faithful, ended_sound, none_walked}
 
 -- ---- the paper's rules, and the orders that they walk in
 
-abbrev pub rule_of : WalkRule → Year → ℕ → Step
-rule_of LeastCount = rule6
-rule_of MostCount = rule7
-rule_of LeastLoad = rule8
-rule_of MostLoad = rule9
+held_by : (r : WalkRule) → AtTerms Held (rule_of r)
+held_by LeastCount = rule6_held
+held_by MostCount = rule7_held
+held_by LeastLoad = rule8_held
+held_by MostLoad = rule9_held
 
-abbrev pub order_of : WalkRule → Orders → List ℕ
-order_of LeastCount o = o.down
-order_of MostCount o = o.up
-order_of LeastLoad o = o.up
-order_of MostLoad o = o.down
+narrows_by : (r : WalkRule) → AtTerms Narrows (rule_of r)
+narrows_by r y k a l = (held_by r y k a l).0
 
-held : (r : WalkRule) → AtTerms Held (rule_of r)
-held LeastCount = rule6_held
-held MostCount = rule7_held
-held LeastLoad = rule8_held
-held MostLoad = rule9_held
-
-order_fits : (r : WalkRule) (y : Year) → Sound y → OrderFits (order_of r (orders_of y)) y.courses
+pub order_fits : (r : WalkRule) (y : Year) → Sound y → OrderFits (order_of r y) y.courses
 order_fits LeastCount = down_fits
 order_fits MostCount = up_fits
 order_fits LeastLoad = up_fits
 order_fits MostLoad = down_fits
 
--- ---- the outcome at a term, from what the code reads there
+order_same : (r : WalkRule) (y z : Year) → Narrower y z → order_of r z ≡ order_of r y
+order_same r y z n = go r
+  where
+    same : orders_of z ≡ orders_of y
+    same = orders_weights y z n.courses_same n.weight_same
 
-module _ (y : Year) (u : List Sums) (e : u ≡ tab 16 (sums_at y)) (j : ℕ) (h : j < 16) where
-  -- a walk starts with the definition's spares and sums
-  begins : (r : WalkRule) (o : List ℕ)
-      → walked_at r u y.weight y.list o y.courses y.term j
-      ≡ ended_of r (term_at y j) (walk_over y.weight y.list j (until_of r (term_at y j)) (take y.courses o) (begun_of (spares y) (sums_at y j)))
-  begins r o =
-      ap₂ (λ s x. ended_of r (term_at y j) (walk_over y.weight y.list j (until_of r (term_at y j)) (take y.courses o) (begun_of s x)))
-      (spares_are y u e)
-      (sums_read y u e j h)
+    go : (r : WalkRule) → order_of r z ≡ order_of r y
+    go LeastCount = ap (λ (o : Orders). o.down) same
+    go MostCount = ap (λ (o : Orders). o.up) same
+    go LeastLoad = ap (λ (o : Orders). o.up) same
+    go MostLoad = ap (λ (o : Orders). o.down) same
+
+-- ---- the outcome at a term is the rule's
+
+module _ (y : Year) (s : Sound y) (j : ℕ) (h : j < 16) where
+  pub sums_over : sums_in y.sums j ≡ sums_to y.weight y.list y.courses j
+  unfolding sums_at fixed_credits open_credits fixed_count open_count
+  sums_over = sums_read y y.sums s.sums_kept j h
+
+  -- a walk starts with the definition's sums
+  begins : (r : WalkRule)
+      → walked_at r y j
+      ≡ ended_of r (term_at y j) (walk_over y.weight y.list j (until_of r (term_at y j)) (take y.courses (order_of r y)) (begun_of (spares y) (sums_at y j)))
+  begins r =
+      ap (λ x. ended_of r (term_at y j) (walk_over y.weight y.list j (until_of r (term_at y j)) (take y.courses (order_of r y)) (begun_of (spares y) x)))
+      (sums_read y y.sums s.sums_kept j h)
 
   -- and ends in the definition's one move
-  walk_is : (r : WalkRule) → put y j (walked_at r u y.weight y.list (order_of r (orders_of y)) y.courses y.term j) ≡ rule_of r y j
+  walk_is : (r : WalkRule) → put y j (walked_at r y j) ≡ rule_of r y j
   unfolding least_count most_count least_load most_load walk_of sums_at fixed_credits fixed_count
-  walk_is LeastCount = ap (put y j) (begins LeastCount (down y)) ∙ raise_move 6 y j Counts _ _
-  walk_is MostCount = ap (put y j) (begins MostCount (up y)) ∙ lower_move 7 y j Counts _ false
-  walk_is LeastLoad = ap (put y j) (begins LeastLoad (up y)) ∙ raise_move 8 y j Credits _ _
-  walk_is MostLoad = ap (put y j) (begins MostLoad (down y)) ∙ lower_move 9 y j Credits _ false
+  walk_is LeastCount = ap (put y j) (begins LeastCount) ∙ raise_move 6 y j Counts _ _
+  walk_is MostCount = ap (put y j) (begins MostCount) ∙ lower_move 7 y j Counts _ false
+  walk_is LeastLoad = ap (put y j) (begins LeastLoad) ∙ raise_move 8 y j Credits _ _
+  walk_is MostLoad = ap (put y j) (begins MostLoad) ∙ lower_move 9 y j Credits _ false
 
--- ---- a state before rules 6 to 9, with the orders of its year
+-- ---- behind a rule over the terms, from s to t: the bounds alone are others
 
-pub record Ready (w : List ℕ) (s : State) (o : Orders) : Type 0 where
-  pub sound : Sound (year_in w s)
-  pub orders_are : o ≡ orders_of (year_in w s)
+pub after : (r : WalkRule) (s t : State) → step_in t ≡ over_terms (rule_of r) (step_in s) → BoundsOnly (year_in s) (year_in t)
+after r s t e =
+    subst (BoundsOnly (year_in s)) (sym (ap (λ (x : Step). x.year) e))
+    (only_over (rule_of r) (narrows_by r) (λ y j a l. (walked_at r y j, walk_is y a j (omega (arith, a)) r)) (step_in s) s.sound s.terms (le_refl s.terms))
 
-module _ {w : List ℕ} {s : State} {o : Orders} (a : Ready w s o) where
-  -- the walk of rule r at a term of the year with other bounds
-  at_hand : (r : WalkRule) (y : Year) (j : ℕ) → BoundsOnly (year_in w s) y
-      → walked_at r s.sums w s.list (order_of r o) s.courses y.term j
-      ≡ walked_at r s.sums y.weight y.list (order_of r (orders_of y)) y.courses y.term j
-  at_hand r y j k =
-      let v = sym k.narrower.weight_same in
-      let m = sym k.list_same in
-      let n = sym k.narrower.courses_same in
-      let d = a.orders_are ∙ sym (orders_weights (year_in w s) y k.narrower.courses_same k.narrower.weight_same) in
-      λ i. walked_at r s.sums (v i) (m i) (order_of r (d i)) (n i) y.term j
+-- so the next one walks in the same order, and its tallies are the same
+pub asked : (r : WalkRule) (s t : State) → BoundsOnly (year_in s) (year_in t) → (o : List ℕ) → o ≡ order_of r (year_in s) → (x : Tallies) → x ≡ tallies_of s.sums
+    → (o ≡ order_of r (year_in t)) × (x ≡ tallies_of t.sums)
+asked r s t k o o_is x x_is = (o_is ∙ sym (order_same r (year_in s) (year_in t) k.narrower), x_is ∙ ap tallies_of (sym k.sums_same))
 
-  -- rule r leads from the bounds of a step to those of the next
-  pub row : (r : WalkRule) {b c : Bounds} {q : Step} → BoundsAt (step_in w s) b q
-      → c ≡ bounds_over (walked_at r s.sums w s.list (order_of r o) s.courses) b s.terms
-      → BoundsAt (step_in w s) c (over_terms (rule_of r) q)
-  row r {b} {c} {q} g =
-      at_next (step_in w s) b q g _ (rule_of r) (held r)
-      (λ y j k h l. ap (put y j) (at_hand r y j k) ∙ walk_is y s.sums (sym k.sums_same ∙ k.narrower.sound.sums_kept) j h r)
-      c
+-- ---- a turn: z is the state at term j, w what the code told of the term, and the state t and the answer v were left
 
-  fits : (r : WalkRule) → OrderFits (order_of r o) s.courses
-  fits r = subst (λ d. OrderFits (order_of r d) s.courses) (sym a.orders_are) (order_fits r (year_in w s) a.sound)
+module _ (r : WalkRule) (s : State) (j : ℕ) (h : j < s.terms) (z : State) (inv : step_in z ≡ over_to (rule_of r) (step_in s) j) where
+  narrower : Narrower (year_in s) (year_in z)
+  narrower = narrower_at (rule_of r) s j h z inv (narrows_by r)
 
-  sums_are : (k : ℕ) → k < 16 → sums_in s.sums k ≡ sums_to w s.list s.courses k
-  unfolding sums_at fixed_credits open_credits fixed_count open_count
-  sums_are = sums_read (year_in w s) s.sums a.sound.sums_kept
+  pub walk_here : j < z.terms
+  walk_here = omega (arith, narrower.terms_same)
 
-  -- what the code of rule r asks of the bounds
-  pub walk_asks : (r : WalkRule) {b : Bounds} {q : Step} {t : Tallies} → BoundsAt (step_in w s) b q → t ≡ tallies_of s.sums
-      → ((s.terms ≤ 16) × (length b.term ≡ 16))
-      × (((k : ℕ) → k < 16 → TermSound (term_in b.term k))
-      × (((s.courses ≤ 64) × (s.courses ≤ length w) × (s.courses ≤ length s.list) × (s.courses ≤ length (order_of r o)))
-      × ((((k : ℕ) → k < s.courses → get_or (order_of r o) k 0 < s.courses) × ((i : ℕ) → i < s.courses → get_or w i 0 ≤ 1000))
-      × (((k : ℕ) → k < 16 → sums_in s.sums k ≡ sums_to w s.list s.courses k)
-      × (t ≡ tallies_of s.sums)))))
-  walk_asks r {b} {q} g e =
-      let f = fits r in (
-        (a.sound.terms_most, at_long (step_in w s) b q g),
-        (
-          at_sound (step_in w s) b q g,
-          (
-            (a.sound.courses_most, omega (arith, a.sound), omega (arith, a.sound), omega (arith, a.sound, f.long)),
-            ((f.small, λ i h. (a.sound.course_sound i h).weight_most), (sums_are, e)),
-          ),
-        ),
-      )
+  small : j < 16
+  small = omega (arith, s.sound)
+
+  pub order_at : (o : List ℕ) → o ≡ order_of r (year_in s) → o ≡ order_of r (year_in z)
+  order_at o is = is ∙ sym (order_same r (year_in s) (year_in z) narrower)
+
+  abbrev what : Outcome
+  what = walked_at r (year_in z) j
+
+  what_is : put (year_in z) j what ≡ rule_of r (year_in z) j
+  what_is = walk_is (year_in z) z.sound j small r
+
+  module _ (w : Result (Option Term) Rule) (is : w ≡ told what) where
+    pub walk_fits : Fits w
+    walk_fits = told_fits what w is (ended_sound r (term_in z.term j) _ (all_sound (year_in z) z.sound j small))
+
+    module _ (t : State) where
+      pub walk_stop : (a : Rule) → step_of t (Err a) ≡ joined (step_in z) (put_told (year_in z) j w) → step_of t (Err a) ≡ over_terms (rule_of r) (step_in s)
+      walk_stop a e = stop (rule_of r) s j h z inv t a (turn_told z j what (ended_faithful r _ _) w is t (Err a) e (rule_of r) what_is)
+
+      module _ (e : step_in t ≡ joined (step_in z) (put_told (year_in z) j w)) where
+        pub walk_turn : step_in t ≡ over_to (rule_of r) (step_in s) (j + 1)
+        walk_turn = turn (rule_of r) s j h z inv t (Ok tt) (turn_told z j what (ended_faithful r _ _) w is t (Ok tt) e (rule_of r) what_is)
+
+        -- the low counts are kept up to date
+        pub least_left : (l : List ℕ) → l ≡ tab 16 (least_in z.term) → set l j (least_in t.term j) ≡ tab 16 (least_in t.term)
+        least_left l l_is =
+            let left : t.term ≡ set z.term j what.term = turn_terms z j what (ended_faithful r _ _) w is t (Ok tt) e in
+            let long : j < length z.term = omega (arith, z.sound, small) in
+            let here : least_in t.term j ≡ what.term.least.0 = ap (λ u. least_in u j) left ∙ ap (λ (u : Term). u.least.0) (get_or-set_same z.term j what.term zero_term long) in
+            ap (set l j) here ∙ low_counts_set z.term l j what.term long l_is ∙ ap (λ u. tab 16 (least_in u)) (sym left)
+
+        -- and the sums are as they were
+        pub sums_left : t.sums ≡ z.sums
+        sums_left = ap (λ (x : Step). x.year.sums) e ∙ go w
+          where
+            go : (w : Result (Option Term) Rule) → (put_told (year_in z) j w).year.sums ≡ z.sums
+            go (Ok (Some u)) = refl
+            go (Ok None) = refl
+            go (Err a) = refl
+
+-- ---- what a walk begins with
+
+-- the spares set up are the definition's
+pub set_up : (z : State) (x : Tallies) → x ≡ tallies_of z.sums → (l : List ℕ) → l ≡ tab 16 (least_in z.term) → tab 16 (spare_from x l) ≡ spares (year_in z)
+set_up z x x_is l l_is =
+    ap₂ (λ a b. tab 16 (spare_from a b)) x_is l_is
+    ∙ spares_from z.term z.sums
+    ∙ spares_are (year_in z) z.sums z.sound.sums_kept
+
+-- its order is one of the courses
+pub walk_order : (r : WalkRule) (z : State) (o : List ℕ) → o ≡ order_of r (year_in z) → (z.courses ≤ length o) × ((k : ℕ) → k < z.courses → get_or o k 0 < z.courses)
+walk_order r z o is =
+    let f = subst (λ d. OrderFits d z.courses) (sym is) (order_fits r (year_in z) z.sound) in
+    (omega (arith, f.long, z.sound), f.small)
+
+-- where no course is open, it ends as it began
+pub walk_none : (r : WalkRule) (z : State) (j : ℕ) → j < z.terms → (p : List ℕ) → p ≡ spares (year_in z) → (w : Walk) → w ≡ begun_of p (sums_in z.sums j)
+    → (sums_in z.sums j).free.0 ≡ 0 → ended_of r (term_in z.term j) (reached w) ≡ walked_at r (year_in z) j
+walk_none r z j h p p_is w w_is none =
+    let y = year_in z in
+    let t = term_in z.term j in
+    let f = order_fits r y z.sound in
+    let o = take z.courses (order_of r y) in
+    ap (ended_of r t) (sym (none_walked y.weight y.list j y.courses (sums_in z.sums j) (sums_over y z.sound j (omega (arith, z.sound))) (until_of r t) (order_of r y) w (omega (arith, f.long, z.sound)) f.small none))
+    ∙ ap (λ x. ended_of r t (walk_over y.weight y.list j (until_of r t) o x)) (w_is ∙ ap (λ x. begun_of x (sums_in z.sums j)) p_is)

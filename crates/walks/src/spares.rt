@@ -10,22 +10,22 @@ ghost use Rattle.walks.specs.Sparing.{tallies_of, spare_from, stuck, charged_at}
 use crate::Tallies;
 use year::{Sums, Term, Year};
 
-pub fn tallies_of(sums: [Sums; Year::TERMS]) -> Tallies
-    requires { (k : ℕ) → k < 16 → ((sums_in sums k).placed.0 ≤ 64) × ((sums_in sums k).free.0 ≤ 64) }
-    ensures { result ≡ tallies_of sums }
+pub fn tallies_of(sums: &[Sums; Year::TERMS]) -> Tallies
+    requires { (k : ℕ) → k < 16 → ((sums_in sums.now k).placed.0 ≤ 64) × ((sums_in sums.now k).free.0 ≤ 64) }
+    ensures { result ≡ tallies_of sums.now }
 {
-    let mut f = [0u8; Year::TERMS];
-    let mut p = [0u8; Year::TERMS];
+    let mut free = [0u8; Year::TERMS];
+    let mut placed = [0u8; Year::TERMS];
     for k in 0..Year::TERMS {
-        f[k] = sums[k].free.0 as u8;
-        p[k] = sums[k].placed.0 as u8;
+        free[k] = sums[k].free.0 as u8;
+        placed[k] = sums[k].placed.0 as u8;
     }
-    Tallies { free: f, placed: p }
+    Tallies { free, placed }
 }
 
-pub fn low_counts(term: [Term; Year::TERMS]) -> [u8; Year::TERMS]
-    requires { (k : ℕ) → k < 16 → TermSound (term_in term k) }
-    ensures { result ≡ tab 16 (least_in term) }
+pub fn low_counts(term: &[Term; Year::TERMS]) -> [u8; Year::TERMS]
+    requires { (k : ℕ) → k < 16 → TermSound (term_in term.now k) }
+    ensures { result ≡ tab 16 (least_in term.now) }
 {
     let mut s = [0u8; Year::TERMS];
     for k in 0..Year::TERMS {
@@ -34,19 +34,13 @@ pub fn low_counts(term: [Term; Year::TERMS]) -> [u8; Year::TERMS]
     s
 }
 
-fn less(a: u8, b: u8) -> u8
-    ensures { result ≡ a - b }
-{
-    if b < a { a - b } else { 0 }
-}
-
 // The open courses of each term less those that its low count still needs.
 pub fn spares(tallies: Tallies, least: [u8; Year::TERMS]) -> [u8; Year::TERMS]
     ensures { result ≡ tab 16 (spare_from tallies least) }
 {
     let mut s = [0u8; Year::TERMS];
     for k in 0..Year::TERMS {
-        s[k] = less(tallies.free[k], less(least[k], tallies.placed[k]));
+        s[k] = tallies.free[k].saturating_sub(least[k].saturating_sub(tallies.placed[k]));
     }
     s
 }
@@ -68,7 +62,7 @@ pub fn charged(spare: [u8; Year::TERMS], list: u16) -> [u8; Year::TERMS]
 {
     let mut s = [0u8; Year::TERMS];
     for k in 0..Year::TERMS {
-        s[k] = less(spare[k], ((list >> k) % 2) as u8);
+        s[k] = spare[k].saturating_sub(((list >> k) % 2) as u8);
     }
     s
 }

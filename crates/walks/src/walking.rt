@@ -1,17 +1,21 @@
 // Rules 6 to 9: one walk over the open courses of a term, with the number of courses that each other term can still spare.
-ghost use Rattle.std.specs.Prelude.{◌≡◌, false, ℕ, ◌+◌, ◌≤◌, ◌<◌, length, get_or, take};
-ghost use Rattle.year.specs.Sums.{sums_in};
-ghost use Rattle.year.specs.SumsOf.{sums_to};
-ghost use Rattle.year.specs.Sound.{TermSound};
-ghost use Rattle.rules.specs.Spares.{stops};
-ghost use Rattle.frame.specs.Bounds.{bounds_over, term_in};
+ghost use Rattle.std.specs.Prelude.{◌≡◌, true, ℕ, ◌+◌, ◌≤◌, ◌<◌, length, get_or, take};
+ghost use Rattle.theory.specs.Choice.{choose};
+ghost use Rattle.year.specs.Year.{is_open};
+ghost use Rattle.rules.specs.Spares.{stops, spares};
+ghost use Rattle.rules.specs.Step.{over_terms};
+ghost use Rattle.frame.specs.State.{year_in, step_in, step_of};
+ghost use Rattle.frame.specs.Bounds.{told};
 ghost use Rattle.walks.specs.Sparing.{tallies_of};
-ghost use Rattle.walks.specs.Walking.{stepped, walk_over, reached, begun_of, until_of, ended_of, walked_at};
+ghost use Rattle.walks.specs.Walking.{taken, walk_over, reached, begun_of, until_of, ended_of, rule_of, order_of, walked_at};
 
 use crate::{Tallies, Walk, WalkRule, spares};
-use frame::{Bounds, Outcome};
-use rules::Until;
+use frame::State;
+use rules::{Rule, Until};
+use std::ops::ControlFlow;
 use year::{Course, Courses, Credits, Sums, Term, Year, doors, pairs, tighter};
+
+// ---- one walk
 
 // The walk ends before a course of this weight.
 fn stops(until: Until, credits: Credits, count: Courses, weight: Credits) -> bool
@@ -25,180 +29,133 @@ fn stops(until: Until, credits: Credits, count: Courses, weight: Credits) -> boo
     }
 }
 
-// One course of a walk in term j: passed over if it is not open, skipped if another term that lists it has nothing to spare. The stop is asked of a course that is skipped too.
-fn walk_step(w: Walk, c: Course, j: usize, until: Until) -> Walk
-    requires { (j < 16) × (w.credits.0 ≤ 1000000) × (w.count.0 ≤ 1000000) × (c.weight.0 ≤ 1000) }
-    ensures value { result ≡ stepped w c j until }
-    ensures credits_bound { (result.credits.0 ≤ w.credits.0 + 1000) × (result.count.0 ≤ w.count.0 + 1) }
+// One open course of a walk in term j: skipped if another term that lists it has nothing to spare. The stop is asked of a course
+// that is skipped too, and the walk then breaks off as it is.
+fn walk_step(w: Walk, c: Course, j: usize, until: Until) -> ControlFlow<Walk, Walk>
+    requires room { (j < 16) × (w.credits.0 ≤ 1000000) × (w.count.0 ≤ 1000000) × (c.weight.0 ≤ 1000) }
+    requires course_open { is_open c j ≡ true }
+    ensures { result ≡ choose (stops until w.credits.0 w.count.0 c.weight.0) (ControlFlow.Break w) (ControlFlow.Continue (taken w c j)) }
 {
-    if !pairs::is_open(c, j) {
-        return w;
+    if stops(until, w.credits, w.count, c.weight) {
+        return ControlFlow::Break(w);
     }
-    let spare = w.spare;
-    let credits = w.credits;
-    let count = w.count;
     let others = c.list - doors::power(j);
-    let stop = stops(until, credits, count, c.weight);
-    if stop | spares::blocked(spare, others) {
-        return Walk {
-            spare: spare,
-            credits: credits,
-            count: count,
-            done: stop,
-        };
+    if spares::blocked(w.spare, others) {
+        return ControlFlow::Continue(w);
     }
-    let rest = spares::charged(spare, others);
-    Walk {
-        spare: rest,
-        credits: Credits(credits.0 + c.weight.0),
-        count: Courses(count.0 + 1),
-        done: false,
-    }
+    ControlFlow::Continue(Walk {
+        spare: spares::charged(w.spare, others),
+        credits: Credits(w.credits.0 + c.weight.0),
+        count: Courses(w.count.0 + 1),
+    })
 }
 
-// The walk over the first n courses of an order.
-fn walked(
-    weight: &[u32],
-    list: &[u16],
-    order: &[u8],
-    n: usize,
-    j: usize,
-    until: Until,
-    w: Walk,
-) -> Walk
-    requires n_bound { (n ≤ 64) × (n ≤ length weight.now) × (n ≤ length list.now) × (n ≤ length order.now) × (j < 16) }
-    requires credits_bound { (w.credits.0 ≤ 64000) × (w.count.0 ≤ 64) × (w.done ≡ false) }
-    requires by_index { ((k : ℕ) → k < n → get_or order.now k 0 < n) × ((i : ℕ) → i < n → get_or weight.now i 0 ≤ 1000) }
-    ensures { reached result ≡ walk_over weight.now list.now j until (take n order.now) w }
+// The walk over the courses of an order.
+fn walked(s: &State, order: &[u8], j: usize, until: Until, begun: Walk) -> Walk
+    requires is_term { j < 16 }
+    requires begins { (begun.credits.0 ≤ 64000) × (begun.count.0 ≤ 64) }
+    requires fits { (s.now.courses ≤ length order.now) × ((k : ℕ) → k < s.now.courses → get_or order.now k 0 < s.now.courses) }
+    ensures { reached result ≡ walk_over s.now.weight.now s.now.list j until (take s.now.courses order.now) begun }
 {
-    let mut z = w;
-    let mut k = 0;
-    while (k < n) & !z.done {
-        z = walk_step(
-            z,
-            pairs::course_in(weight, list, order[k] as usize),
-            j,
-            until,
-        );
-        k += 1;
+    let mut w = begun;
+    for i in &order[..s.courses] {
+        let c = pairs::course_in(s.weight, &s.list, usize::from(*i));
+        if pairs::is_open(c, j) {
+            match walk_step(w, c, j, until) {
+                ControlFlow::Break(last) => return last,
+                ControlFlow::Continue(next) => w = next,
+            }
+        }
     }
-    z
+    w
 }
 
 // A walk that begins with what is fixed in its term.
 fn begun(spare: [u8; Year::TERMS], u: Sums) -> Walk
     ensures { result ≡ begun_of spare u }
 {
-    let fixed = u.fixed;
-    let placed = u.placed;
     Walk {
-        spare: spare,
-        credits: fixed,
-        count: placed,
-        done: false,
+        spare,
+        credits: u.fixed,
+        count: u.placed,
     }
 }
+
+// ---- what a rule makes of it
 
 // Where the walk of a rule ends.
 fn until(rule: WalkRule, t: Term) -> Until
     ensures { result ≡ until_of rule t }
 {
-    let low = t.low;
-    let high = t.high;
-    let least = t.least;
-    let most = t.most;
     match rule {
-        WalkRule::LeastCount => Until::Credits(low),
-        WalkRule::MostCount => Until::Past(high),
-        WalkRule::LeastLoad => Until::Count(least),
-        WalkRule::MostLoad => Until::Count(most),
+        WalkRule::LeastCount => Until::Credits(t.low),
+        WalkRule::MostCount => Until::Past(t.high),
+        WalkRule::LeastLoad => Until::Count(t.least),
+        WalkRule::MostLoad => Until::Count(t.most),
     }
 }
 
 // What a rule makes of the credits and the count that its walk reached.
-fn ended(rule: WalkRule, t: Term, w: Walk) -> Outcome
-    ensures { result ≡ ended_of rule t (reached w) }
+fn ended(rule: WalkRule, t: Term, w: Walk) -> Result<Option<Term>, Rule>
+    ensures { result ≡ told (ended_of rule t (reached w)) }
 {
     match rule {
-        WalkRule::LeastCount => {
-            let short = w.credits.0 < t.low.0;
-            frame::outcome_of(6, short, t, tighter::counts_within(t, w.count, t.most))
-        }
-        WalkRule::MostCount => {
-            frame::outcome_of(7, false, t, tighter::counts_within(t, t.least, w.count))
-        }
-        WalkRule::LeastLoad => {
-            let short = w.count.0 < t.least.0;
-            frame::outcome_of(8, short, t, tighter::credits_within(t, w.credits, t.high))
-        }
-        WalkRule::MostLoad => {
-            frame::outcome_of(9, false, t, tighter::credits_within(t, t.low, w.credits))
-        }
+        WalkRule::LeastCount => frame::outcome_of(
+            Rule::LeastCount,
+            w.credits.0 < t.low.0,
+            tighter::counts_within(t, w.count, t.most),
+        ),
+        WalkRule::MostCount => frame::outcome_of(
+            Rule::MostCount,
+            false,
+            tighter::counts_within(t, t.least, w.count),
+        ),
+        WalkRule::LeastLoad => frame::outcome_of(
+            Rule::LeastLoad,
+            w.count.0 < t.least.0,
+            tighter::credits_within(t, w.credits, t.high),
+        ),
+        WalkRule::MostLoad => frame::outcome_of(
+            Rule::MostLoad,
+            false,
+            tighter::credits_within(t, t.low, w.credits),
+        ),
     }
 }
 
-// A rule at term t of number j with the sums u: its walk, which is over at once where no course is open, and what it makes of it.
+// A rule at term j: its walk, which is over at once where no course is open, and what it makes of it.
 fn by_walk(
+    s: &State,
     rule: WalkRule,
-    t: Term,
-    u: Sums,
-    spare: [u8; Year::TERMS],
-    n: usize,
-    weight: &[u32],
-    list: &[u16],
     order: &[u8],
     j: usize,
-) -> Outcome
-    requires n_bound { (n ≤ 64) × (n ≤ length weight.now) × (n ≤ length list.now) × (n ≤ length order.now) × (j < 16) }
-    requires by_index { ((k : ℕ) → k < n → get_or order.now k 0 < n) × ((i : ℕ) → i < n → get_or weight.now i 0 ≤ 1000) }
-    requires u_value { u ≡ sums_to weight.now list.now n j }
-    ensures { result ≡ ended_of rule t (walk_over weight.now list.now j (until_of rule t) (take n order.now) (begun_of spare u)) }
+    spare: [u8; Year::TERMS],
+) -> Result<Option<Term>, Rule>
+    requires in_range { j < s.now.terms }
+    requires in_order { order.now ≡ order_of rule (year_in s.now) }
+    requires set_up { spare ≡ spares (year_in s.now) }
+    ensures { result ≡ told (walked_at rule (year_in s.now) j) }
 {
+    let (t, u) = (s.term[j], s.sums[j]);
     let w = begun(spare, u);
     if u.free.0 == 0 {
         return ended(rule, t, w);
     }
-    ended(
-        rule,
-        t,
-        walked(weight, list, order, n, j, until(rule, t), w),
-    )
+    ended(rule, t, walked(s, order, j, until(rule, t), w))
 }
 
-// A rule over the first m terms. Each term's walk has its spares set up afresh, from the low counts as they stand by then.
-pub fn walk_rule(
-    b: Bounds,
-    rule: WalkRule,
-    m: usize,
-    n: usize,
-    sums: [Sums; Year::TERMS],
-    tallies: Tallies,
-    weight: &[u32],
-    list: &[u16],
-    order: &[u8],
-) -> Bounds
-    requires m_bound { (m ≤ 16) × (length b.term ≡ 16) }
-    requires by_index { (k : ℕ) → k < 16 → TermSound (term_in b.term k) }
-    requires n_bound { (n ≤ 64) × (n ≤ length weight.now) × (n ≤ length list.now) × (n ≤ length order.now) }
-    requires by_index_2 { ((k : ℕ) → k < n → get_or order.now k 0 < n) × ((i : ℕ) → i < n → get_or weight.now i 0 ≤ 1000) }
-    requires by_index_3 { (k : ℕ) → k < 16 → sums_in sums k ≡ sums_to weight.now list.now n k }
-    requires tallies_value { tallies ≡ tallies_of sums }
-    ensures { result ≡ bounds_over (walked_at rule sums weight.now list.now order.now n) b m }
+// A rule over the terms. Each term's walk has its spares set up afresh, from the low counts as they stand by then.
+pub fn walk_rule(s: &mut State, rule: WalkRule, order: &[u8], tallies: Tallies) -> Result<(), Rule>
+    requires in_order { order.now ≡ order_of rule (year_in s.old) }
+    requires tallied { tallies ≡ tallies_of s.old.sums }
+    ensures { step_of s.new result ≡ over_terms (rule_of rule) (step_in s.old) }
 {
-    let mut z = b;
-    let term = b.term;
-    let mut least = spares::low_counts(term);
-    let mut j = 0;
-    while (j < m) & (z.rule == 0) {
-        let t = z.term[j];
+    let mut least = spares::low_counts(&s.term);
+    for j in 0..s.terms {
         let spare = spares::spares(tallies, least);
-        let o = by_walk(rule, t, sums[j], spare, n, weight, list, order, j);
-        let v = o.term;
-        z.term[j] = v;
-        least[j] = v.least.0 as u8;
-        z.altered = z.altered | o.altered;
-        z.rule = o.rule;
-        j += 1;
+        let outcome = by_walk(s, rule, order, j, spare);
+        s.tighten(j, outcome)?;
+        least[j] = s.term[j].least.0 as u8;
     }
-    z
+    Ok(())
 }

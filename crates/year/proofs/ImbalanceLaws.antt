@@ -2,6 +2,7 @@
 -- it is 0, how large it is.
 use Prim.Native.Nat.{ℕ, ◌*◌, ◌≤◌, ◌<◌}
 use mathlib.Core.Bool.{Bool, true, false, ◌&&◌}
+use Rattle.std.specs.Prelude.{Ok, Err}
 use mathlib.Core.Logic.{◌↔◌}
 use mathlib.Core.Path.{◌≡◌, refl, sym, ap, ◌∙◌}
 use native.Mathlib.Nat.{mul-le-mul}
@@ -17,29 +18,29 @@ use Rattle.year.specs.Numbers.{imbalance_value}
 use Rattle.year.specs.Sound.{Sound, is_sound}
 use Rattle.year.specs.Sums.{fixed_credits, all_credits, all_placed}
 use Rattle.year.specs.declared.Year.{Year}
-use Rattle.year.specs.declared.Measured.TheVariants.{Imbalance, Unsound, Unsettled}
+use Rattle.year.specs.declared.ImbalanceRefusal.TheVariants.{Unsound, Unsettled}
 use Rattle.year.proofs.SoundLaws.{sound_of, sound_to}
 use Rattle.year.proofs.OnePlacing.{placed_total}
 use Rattle.year.proofs.SumLaws.{all_credits_le, possible_le}
 
 -- ---- case by case
 
-pub imbalance_unsound : (y : Year) → is_sound y ≡ false → imbalance_of y ≡ Unsound
+pub imbalance_unsound : (y : Year) → is_sound y ≡ false → imbalance_of y ≡ Err Unsound
 unfolding imbalance_of
 imbalance_unsound y e = rw e refl
 
 module _ (y : Year) (s : Sound y) where
   -- a course has several terms
-  pub imbalance_open : all_placed y ≡ false → imbalance_of y ≡ Unsettled
+  pub imbalance_open : all_placed y ≡ false → imbalance_of y ≡ Err Unsettled
   unfolding imbalance_of one_plan
   imbalance_open e = rw (sound_to y s, e) refl
 
   -- a term's credits or count are outside its bounds
-  pub imbalance_unfit : all_placed y ≡ true → all y.terms (fits_at y) ≡ false → imbalance_of y ≡ Unsettled
+  pub imbalance_unfit : all_placed y ≡ true → all y.terms (fits_at y) ≡ false → imbalance_of y ≡ Err Unsettled
   unfolding imbalance_of one_plan
   imbalance_unfit e d = rw (sound_to y s, e, d) refl
 
-  pub imbalance_given : all_placed y ≡ true → all y.terms (fits_at y) ≡ true → imbalance_of y ≡ Imbalance (imbalance_by y (fixed_credits y))
+  pub imbalance_given : all_placed y ≡ true → all y.terms (fits_at y) ≡ true → imbalance_of y ≡ Ok (imbalance_by y (fixed_credits y))
   unfolding imbalance_of one_plan
   imbalance_given e d = rw (sound_to y s, e, d) refl
 
@@ -60,12 +61,12 @@ module _ (y : Year) (credits : ℕ → ℕ) (total : sum y.terms credits ≡ all
   imbalance_most s = rw total at (left_most y.terms credits 15 64000 s.terms_most (omega (arith, total, all_credits_le y s, s.courses_most)))
 
 -- the largest imbalance: of 64 courses of 1,000 credits in one of 16 terms
-pub imbalance_small : (y : Year) (v : ℕ) → imbalance_of y ≡ Imbalance v → v ≤ 15 * square 64000
+pub imbalance_small : (y : Year) (v : ℕ) → imbalance_of y ≡ Ok v → v ≤ 15 * square 64000
 unfolding imbalance_of one_plan
 imbalance_small y v e = go (is_sound y) refl (all_placed y) refl (all y.terms (fits_at y)) e
   where
     go : (a : Bool) → is_sound y ≡ a → (b : Bool) → all_placed y ≡ b → (c : Bool)
-        → choose a (choose (b && c) (Imbalance (imbalance_by y (fixed_credits y))) Unsettled) Unsound ≡ Imbalance v → v ≤ 15 * square 64000
+        → choose a (choose (b && c) (Ok (imbalance_by y (fixed_credits y))) (Err Unsettled)) (Err Unsound) ≡ Ok v → v ≤ 15 * square 64000
     go true p true q true e =
         let s = sound_of y p in
         let is : imbalance_by y (fixed_credits y) ≡ v = ap imbalance_value e in

@@ -3,6 +3,7 @@ pub mod SoundLaws
 pub mod BoundLaws
 pub mod CheckLaws
 pub mod DoorLaws
+pub mod EntryLaws
 pub mod SumLaws
 pub mod ListedLaws
 pub mod ChangeLaws

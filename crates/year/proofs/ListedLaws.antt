@@ -7,7 +7,9 @@ use native.Mathlib.Omega.{arith}
 use lib.Dec.{eqb}
 use lib.ListN.{get_or}
 use borrow.Author.Tests.{eq-eqb, eqb-true, ne_eqb}
+use Rattle.std.specs.Int.{from_bool}
 use Rattle.theory.specs.Bits.{has}
+use Rattle.theory.specs.Choice.{choose}
 use Rattle.theory.specs.Sum.{pick, sum}
 use Rattle.theory.proofs.BitLaws.{has_power, has_below}
 use Rattle.theory.proofs.SumLaws.{sum_more, sum_cong, sum_add, sum_zero}
@@ -42,6 +44,15 @@ module _ (w l : List ℕ) (j n : ℕ) where
   listed_ones =
       sum_cong n (listed_one w l j) (λ i. fixed_one w l j i + open_one w l j i) (λ i h. listed (get_or l i 0) j 1)
       ∙ sum_add n (fixed_one w l j) (open_one w l j)
+
+-- a number under a test, and a test as a number, by the code's words
+pub chosen : (b : Bool) (x r : ℕ) → r ≡ choose b x 0 → (r ≡ pick b x) × (r ≤ x)
+chosen true x r e = (e, omega (arith, e))
+chosen false x r e = (e, omega (arith, e))
+
+pub counted : (b : Bool) (r : ℕ) → r ≡ from_bool b → (r ≡ pick b 1) × (r ≤ 1)
+counted true r e = (e, omega (arith, e))
+counted false r e = (e, omega (arith, e))
 
 -- ---- the sums of term j as the code counts them over the first n courses: of those fixed there, and of those that list it
 

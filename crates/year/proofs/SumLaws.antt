@@ -89,3 +89,9 @@ module _ (y : Year) (s : List Sums) (e : s ≡ tab 16 (sums_at y)) (k : ℕ) (h 
 
 pub sums_long : (y : Year) → Sound y → length y.sums ≡ 16
 sums_long y s = ap length s.sums_kept ∙ length_tab 16 (sums_at y)
+
+-- ---- sums that are 0
+
+pub all_zero : (s : Sums) → (s.fixed.0 ≡ 0) × ((s.possible.0 ≡ 0) × ((s.placed.0 ≡ 0) × (s.free.0 ≡ 0))) → s ≡ no_sums
+all_zero s z =
+    λ i. record { fixed = record { 0 = z.0 i }; possible = record { 0 = z.1.0 i }; placed = record { 0 = z.1.1.0 i }; free = record { 0 = z.1.1.1 i } }

@@ -1,5 +1,5 @@
 -- Closed examples, by computation: year E of the paper and its plans, and each answer of the narrowings and of the imbalance.
-use Rattle.std.specs.Prelude.{ℕ, suc, ◌*◌, ◌^◌, Bool, true, false, List, [], ◌∷◌, ◌++◌, ◌≡◌, refl, length, replicate, take, set}
+use Rattle.std.specs.Prelude.{ℕ, suc, ◌*◌, ◌^◌, Bool, true, false, List, [], ◌∷◌, ◌++◌, ◌≡◌, refl, length, replicate, take, set, Ok, Err}
 use Rattle.theory.specs.Sum.{sum}
 use Rattle.theory.specs.Pairs.{square}
 use Rattle.theory.specs.Tests.{all, any}
@@ -21,8 +21,8 @@ use Rattle.year.specs.declared.Side.TheVariants.{Low, High}
 use Rattle.year.specs.declared.Sums.{Sums}
 use Rattle.year.specs.declared.Tight.{Tight}
 use Rattle.year.specs.declared.Year.{Year}
-use Rattle.year.specs.declared.Narrowing.TheVariants.{Done, Unsound, Missing, Outside, Crossing}
-use Rattle.year.specs.declared.Measured.TheVariants as measured
+use Rattle.year.specs.declared.NarrowingRefusal.TheVariants.{Unsound, Missing, Outside, Crossing}
+use Rattle.year.specs.declared.ImbalanceRefusal.TheVariants as imbalance
 
 -- ---- years by their terms and courses
 
@@ -203,32 +203,32 @@ sums_filled_in = (refl, refl, refl, refl, refl, refl)
 
 -- ---- placing and barring
 
-pub places : place_of year_e 0 0 ≡ answered Done first_placed
+pub places : place_of year_e 0 0 ≡ answered (Ok tt) first_placed
 unfolding place_of computing
 places = refl
 
-pub bars : bar_of year_e 0 0 ≡ answered Done (with_list year_e 0 2)
+pub bars : bar_of year_e 0 0 ≡ answered (Ok tt) (with_list year_e 0 2)
 unfolding bar_of computing
 bars = refl
 
 -- a last term is not barred; a term that is not listed is, and the year is as it was
-pub bars_no_last : bar_of first_placed 0 0 ≡ answered Crossing first_placed
+pub bars_no_last : bar_of first_placed 0 0 ≡ answered (Err Crossing) first_placed
 unfolding bar_of computing
 bars_no_last = refl
 
-pub bars_unlisted : bar_of first_placed 0 1 ≡ answered Done first_placed
+pub bars_unlisted : bar_of first_placed 0 1 ≡ answered (Ok tt) first_placed
 unfolding bar_of computing
 bars_unlisted = refl
 
-pub places_no_unlisted : place_of first_placed 0 1 ≡ answered Crossing first_placed
+pub places_no_unlisted : place_of first_placed 0 1 ≡ answered (Err Crossing) first_placed
 unfolding place_of computing
 places_no_unlisted = refl
 
-pub no_such_course : place_of year_e 3 0 ≡ answered Missing year_e
+pub no_such_course : place_of year_e 3 0 ≡ answered (Err Missing) year_e
 unfolding place_of computing
 no_such_course = refl
 
-pub no_such_term : bar_of year_e 0 2 ≡ answered Missing year_e
+pub no_such_term : bar_of year_e 0 2 ≡ answered (Err Missing) year_e
 unfolding bar_of computing
 no_such_term = refl
 
@@ -236,17 +236,17 @@ no_such_term = refl
 abbrev pub off_e : Year
 off_e = with_other year_e 1 (sums_of 0 9 0 2)
 
-pub sums_refused : (place_of off_e 0 0 ≡ answered Unsound off_e)
-    × (bar_of off_e 0 0 ≡ answered Unsound off_e)
-    × (raise_low_credits_of off_e 0 1 ≡ answered Unsound off_e)
-    × (lower_high_credits_of off_e 0 1 ≡ answered Unsound off_e)
-    × (raise_low_count_of off_e 0 1 ≡ answered Unsound off_e)
-    × (lower_high_count_of off_e 0 1 ≡ answered Unsound off_e)
+pub sums_refused : (place_of off_e 0 0 ≡ answered (Err Unsound) off_e)
+    × (bar_of off_e 0 0 ≡ answered (Err Unsound) off_e)
+    × (raise_low_credits_of off_e 0 1 ≡ answered (Err Unsound) off_e)
+    × (lower_high_credits_of off_e 0 1 ≡ answered (Err Unsound) off_e)
+    × (raise_low_count_of off_e 0 1 ≡ answered (Err Unsound) off_e)
+    × (lower_high_count_of off_e 0 1 ≡ answered (Err Unsound) off_e)
 unfolding place_of bar_of computing
 sums_refused = (refl, refl, refl, refl, refl, refl)
 
 -- an unsound year is refused first
-pub unsound_first : place_of foreign_e 3 0 ≡ answered Unsound foreign_e
+pub unsound_first : place_of foreign_e 3 0 ≡ answered (Err Unsound) foreign_e
 unfolding place_of computing
 unsound_first = refl
 
@@ -283,49 +283,51 @@ crosses_past = (refl, refl, refl, refl)
 
 -- ---- bounds
 
-pub raises : raise_low_credits_of year_e 0 4 ≡ answered Done (with_term year_e 0 (term_of 4 4 0 3))
+pub raises : raise_low_credits_of year_e 0 4 ≡ answered (Ok tt) (with_term year_e 0 (term_of 4 4 0 3))
 unfolding computing
 raises = refl
 
-pub lowers : lower_high_count_of year_e 1 0 ≡ answered Done (with_term year_e 1 (term_of 0 6 0 0))
+pub lowers : lower_high_count_of year_e 1 0 ≡ answered (Ok tt) (with_term year_e 1 (term_of 0 6 0 0))
 unfolding computing
 lowers = refl
 
 -- no tighter: done, and nothing altered
-pub raises_nothing : raise_low_count_of year_e 0 0 ≡ answered Done year_e
+pub raises_nothing : raise_low_count_of year_e 0 0 ≡ answered (Ok tt) year_e
 unfolding computing
 raises_nothing = refl
 
-pub lowers_nothing : lower_high_credits_of year_e 0 4 ≡ answered Done year_e
+pub lowers_nothing : lower_high_credits_of year_e 0 4 ≡ answered (Ok tt) year_e
 unfolding computing
 lowers_nothing = refl
 
 -- a low bound above its high bound
-pub crosses : raise_low_credits_of year_e 0 5 ≡ answered Crossing year_e
+pub crosses : raise_low_credits_of year_e 0 5 ≡ answered (Err Crossing) year_e
 unfolding computing
 crosses = refl
 
 -- the largest bound of the sizes, which crosses or is no tighter here, and one past it
-pub largest_credits : (raise_low_credits_of year_e 0 64000 ≡ answered Crossing year_e)
-    × (lower_high_credits_of year_e 0 64000 ≡ answered Done year_e)
+pub largest_credits : (raise_low_credits_of year_e 0 64000 ≡ answered (Err Crossing) year_e)
+    × (lower_high_credits_of year_e 0 64000 ≡ answered (Ok tt) year_e)
 unfolding computing
 largest_credits = (refl, refl)
 
-pub outside_credits : (raise_low_credits_of year_e 0 64001 ≡ answered Outside year_e)
-    × (lower_high_credits_of year_e 0 64001 ≡ answered Outside year_e)
+pub outside_credits : (raise_low_credits_of year_e 0 64001 ≡ answered (Err Outside) year_e)
+    × (lower_high_credits_of year_e 0 64001 ≡ answered (Err Outside) year_e)
 unfolding computing
 outside_credits = (refl, refl)
 
-pub largest_count : (raise_low_count_of year_e 0 64 ≡ answered Crossing year_e) × (lower_high_count_of year_e 0 64 ≡ answered Done year_e)
+pub largest_count : (raise_low_count_of year_e 0 64 ≡ answered (Err Crossing) year_e)
+    × (lower_high_count_of year_e 0 64 ≡ answered (Ok tt) year_e)
 unfolding computing
 largest_count = (refl, refl)
 
-pub outside_count : (raise_low_count_of year_e 0 65 ≡ answered Outside year_e) × (lower_high_count_of year_e 0 65 ≡ answered Outside year_e)
+pub outside_count : (raise_low_count_of year_e 0 65 ≡ answered (Err Outside) year_e)
+    × (lower_high_count_of year_e 0 65 ≡ answered (Err Outside) year_e)
 unfolding computing
 outside_count = (refl, refl)
 
 -- of a term that the year lacks, the term is refused first
-pub missing_first : raise_low_count_of year_e 2 65 ≡ answered Missing year_e
+pub missing_first : raise_low_count_of year_e 2 65 ≡ answered (Err Missing) year_e
 unfolding computing
 missing_first = refl
 
@@ -344,15 +346,15 @@ abbrev pub heaped : Year
 heaped = year_of (replicate 16 (at_least 0 0)) (replicate 64 (course_of 1000 (2 ^ 15)))
 
 pub record Imbalances : Type 0 where
-  pub four_and_five_lem : imbalance_of (loaded (4 ∷ 5 ∷ [])) ≡ measured.Imbalance 1
-  pub three_and_six : imbalance_of (loaded (3 ∷ 6 ∷ [])) ≡ measured.Imbalance 9
+  pub four_and_five_lem : imbalance_of (loaded (4 ∷ 5 ∷ [])) ≡ Ok 1
+  pub three_and_six : imbalance_of (loaded (3 ∷ 6 ∷ [])) ≡ Ok 9
   -- the same heaviest and lightest term, and the same credits in all; the second is ragged between
-  pub even_between : imbalance_of (loaded (1 ∷ 5 ∷ 5 ∷ 9 ∷ [])) ≡ measured.Imbalance 128
-  pub ragged_between : imbalance_of (loaded (1 ∷ 9 ∷ 1 ∷ 9 ∷ [])) ≡ measured.Imbalance 256
-  pub equal_loads : imbalance_of (loaded (7 ∷ 7 ∷ 7 ∷ [])) ≡ measured.Imbalance 0
-  pub one_term_lem : imbalance_of (loaded (9 ∷ [])) ≡ measured.Imbalance 0
-  pub no_course : imbalance_of (year_of (at_least 0 0 ∷ at_least 0 0 ∷ []) []) ≡ measured.Imbalance 0
-  pub all_in_one : imbalance_of heaped ≡ measured.Imbalance (15 * square 64000)
+  pub even_between : imbalance_of (loaded (1 ∷ 5 ∷ 5 ∷ 9 ∷ [])) ≡ Ok 128
+  pub ragged_between : imbalance_of (loaded (1 ∷ 9 ∷ 1 ∷ 9 ∷ [])) ≡ Ok 256
+  pub equal_loads : imbalance_of (loaded (7 ∷ 7 ∷ 7 ∷ [])) ≡ Ok 0
+  pub one_term_lem : imbalance_of (loaded (9 ∷ [])) ≡ Ok 0
+  pub no_course : imbalance_of (year_of (at_least 0 0 ∷ at_least 0 0 ∷ []) []) ≡ Ok 0
+  pub all_in_one : imbalance_of heaped ≡ Ok (15 * square 64000)
 
 pub imbalances : Imbalances
 unfolding imbalance_of one_plan all_placed is_placed all_credits any computing
@@ -368,15 +370,15 @@ imbalances = record {
 }
 
 -- courses with several terms, and one placing that is no plan, of courses and of none
-pub unsettled : imbalance_of year_e ≡ measured.Unsettled
+pub unsettled : imbalance_of year_e ≡ Err imbalance.Unsettled
 unfolding imbalance_of one_plan all_placed is_placed any computing
 unsettled = refl
 
-pub no_plan : (imbalance_of crowded_e ≡ measured.Unsettled) × (imbalance_of (year_of (at_least 1 0 ∷ []) []) ≡ measured.Unsettled)
+pub no_plan : (imbalance_of crowded_e ≡ Err imbalance.Unsettled) × (imbalance_of (year_of (at_least 1 0 ∷ []) []) ≡ Err imbalance.Unsettled)
 unfolding imbalance_of one_plan all_placed is_placed any computing
 no_plan = (refl, refl)
 
-pub imbalance_unsound : (imbalance_of foreign_e ≡ measured.Unsound) × (imbalance_of off_e ≡ measured.Unsound)
+pub imbalance_unsound : (imbalance_of foreign_e ≡ Err imbalance.Unsound) × (imbalance_of off_e ≡ Err imbalance.Unsound)
 unfolding imbalance_of computing
 imbalance_unsound = (refl, refl)
 

@@ -1,5 +1,5 @@
 -- The imbalance of a settled year: the number of terms times the sum of squared term credits, less the square of all credits.
-use Rattle.std.specs.Prelude.{ℕ, ◌-◌, ◌*◌, Bool, ◌&&◌, leb}
+use Rattle.std.specs.Prelude.{ℕ, ◌-◌, ◌*◌, Bool, ◌&&◌, leb, Result, Ok, Err}
 use Rattle.theory.specs.Choice.{choose}
 use Rattle.theory.specs.Tests.{all}
 use Rattle.theory.specs.Sum.{sum}
@@ -9,8 +9,8 @@ use Rattle.year.specs.Sums.{fixed_credits, fixed_count, all_credits, all_placed}
 use Rattle.year.specs.Sound.{is_sound}
 use Rattle.year.specs.declared.Term.{Term}
 use Rattle.year.specs.declared.Year.{Year}
-use Rattle.year.specs.declared.Measured.{Measured}
-use Rattle.year.specs.declared.Measured.TheVariants.{Imbalance, Unsound, Unsettled}
+use Rattle.year.specs.declared.ImbalanceRefusal.{ImbalanceRefusal}
+use Rattle.year.specs.declared.ImbalanceRefusal.TheVariants.{Unsound, Unsettled}
 
 -- credits c and count n are within a term's bounds
 abbrev pub fits : Term → ℕ → ℕ → Bool
@@ -28,5 +28,5 @@ one_plan y = all_placed y && all y.terms (fits_at y)
 abbrev pub imbalance_by : Year → (ℕ → ℕ) → ℕ
 imbalance_by y credits = y.terms * sum y.terms (λ k. square (credits k)) - square (all_credits y)
 
-unfoldable pub imbalance_of : Year → Measured
-imbalance_of y = choose (is_sound y) (choose (one_plan y) (Imbalance (imbalance_by y (fixed_credits y))) Unsettled) Unsound
+unfoldable pub imbalance_of : Year → Result ℕ ImbalanceRefusal
+imbalance_of y = choose (is_sound y) (choose (one_plan y) (Ok (imbalance_by y (fixed_credits y))) (Err Unsettled)) (Err Unsound)

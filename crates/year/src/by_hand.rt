@@ -3,7 +3,7 @@ ghost use Rattle.std.specs.Prelude.{◌≡◌, ℕ, ◌≤◌, ◌<◌, ◌^◌,
 ghost use Rattle.year.specs.Doors.{with_sums};
 ghost use Rattle.year.specs.ByHand.{summed_of, unsummed, by_hand};
 
-use crate::{Course, Term, Year, sound, summing};
+use crate::{Course, Sums, Term, Year, sound, summing};
 
 // The year with the sums over its lists.
 pub fn with_sums(y: Year) -> Year
@@ -11,12 +11,8 @@ pub fn with_sums(y: Year) -> Year
     requires by_index { (i : ℕ) → i < y.courses → (get_or y.weight i 0 ≤ 1000) × (get_or y.list i 0 < 2 ^ y.terms) }
     ensures { result ≡ with_sums y }
 {
-    let mut z = y;
-    let w = y.weight;
-    let l = y.list;
-    let sums = summing::sums_over(&w, &l, y.terms, y.courses);
-    z.sums = sums;
-    z
+    let sums = summing::sums_over(&y.weight, &y.list, y.terms, y.courses);
+    Year { sums, ..y }
 }
 
 // A year of its terms and its courses, with sums of 0.
@@ -28,21 +24,19 @@ fn unsummed(
 ) -> Year
     ensures { result ≡ unsummed terms courses term course }
 {
-    let mut w = [0u32; Year::COURSES];
-    let mut l = [0u16; Year::COURSES];
+    let mut weight = [0u32; Year::COURSES];
+    let mut list = [0u16; Year::COURSES];
     for i in 0..Year::COURSES {
-        w[i] = course[i].weight.0;
-        l[i] = course[i].list;
+        weight[i] = course[i].weight.0;
+        list[i] = course[i].list;
     }
-    let z = summing::nothing();
-    let sums = [z; Year::TERMS];
     Year {
-        terms: terms,
-        courses: courses,
-        term: term,
-        weight: w,
-        list: l,
-        sums: sums,
+        terms,
+        courses,
+        term,
+        weight,
+        list,
+        sums: [Sums::default(); Year::TERMS],
     }
 }
 
@@ -51,7 +45,7 @@ impl Year {
     pub fn summed(self) -> Year
         ensures { result ≡ summed_of self }
     {
-        if sound::is_sound_but_sums(self) {
+        if sound::is_sound_but_sums(&self) {
             return with_sums(self);
         }
         self

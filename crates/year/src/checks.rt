@@ -2,32 +2,37 @@
 ghost use Rattle.std.specs.Prelude.{◌≡◌, false};
 ghost use Rattle.theory.specs.Choice.{choose};
 ghost use Rattle.year.specs.Narrow.{answered, checked, no_such};
-ghost use Rattle.year.specs.declared.Narrowing.TheVariants.{Done, Crossing};
 
-use crate::{Narrowing, Year, sound};
+use crate::{NarrowingRefusal, Year};
 
 // By 8, by 10 where the year lacks what it names, by 11 where its bound is outside the sizes, by 12 where it would cross.
-pub fn checked(y: Year, missing: bool, outside: bool, crossed: bool) -> Narrowing
-    ensures { result ≡ (checked y missing outside (choose crossed (answered Crossing y) (answered Done y))).answer }
+pub fn checked(
+    y: &Year,
+    missing: bool,
+    outside: bool,
+    crossed: bool,
+) -> Result<(), NarrowingRefusal>
+    ensures { result
+        ≡ (checked y.now missing outside (choose crossed (answered (Err NarrowingRefusal.Crossing) y.now) (answered (Ok tt) y.now))).answer }
 {
-    if !sound::is_sound(y) {
-        return Narrowing::Unsound;
+    if !y.is_sound() {
+        return Err(NarrowingRefusal::Unsound);
     }
     if missing {
-        return Narrowing::Missing;
+        return Err(NarrowingRefusal::Missing);
     }
     if outside {
-        return Narrowing::Outside;
+        return Err(NarrowingRefusal::Outside);
     }
     if crossed {
-        return Narrowing::Crossing;
+        return Err(NarrowingRefusal::Crossing);
     }
-    Narrowing::Done
+    Ok(())
 }
 
 // By 8, or by 10 where the year lacks course i or term j.
-pub fn named(y: Year, i: usize, j: usize) -> Narrowing
-    ensures { result ≡ (checked y (no_such y i j) false (answered Done y)).answer }
+pub fn named(y: &Year, i: usize, j: usize) -> Result<(), NarrowingRefusal>
+    ensures { result ≡ (checked y.now (no_such y.now i j) false (answered (Ok tt) y.now)).answer }
 {
-    checked(y, (y.courses <= i) | (y.terms <= j), false, false)
+    checked(y, y.courses <= i || y.terms <= j, false, false)
 }

@@ -7,7 +7,7 @@ ghost use Rattle.year.specs.Year.{course_at, lists};
 ghost use Rattle.year.specs.Doors.{with_term, with_list, placed, struck};
 ghost use Rattle.year.specs.Sound.{Sound};
 
-use crate::{Term, Tight, Year, pairs, summing};
+use crate::{Tight, Year, pairs, summing};
 
 // The list of term j alone.
 pub fn power(j: usize) -> u16
@@ -17,66 +17,52 @@ pub fn power(j: usize) -> u16
     1u16 << j
 }
 
-pub fn with_term(y: Year, j: usize, t: Term) -> Year
-    requires { j < 16 }
-    ensures { result ≡ with_term y j t }
-{
-    let mut z = y;
-    z.term[j] = t;
-    z
-}
-
-// Term j with tighter bounds, where one moved.
-pub fn bounded(y: Year, j: usize, w: Tight) -> Year
-    requires { j < 16 }
-    ensures { result ≡ choose w.altered (with_term y j w.term) y }
-{
-    if w.altered {
-        let t = w.term;
-        return with_term(y, j, t);
-    }
-    y
-}
-
-pub fn with_list(y: Year, i: usize, list: u16) -> Year
-    requires sound { Sound y }
-    requires i_lt_courses { i < y.courses }
-    ensures { result ≡ with_list y i list }
-{
-    let mut z = y;
-    let sums = y.sums;
-    let c = pairs::course_of(y.weight[i], y.list[i]);
-    let next = summing::changed(sums, c, list);
-    z.list[i] = list;
-    z.sums = next;
-    z
-}
-
-// Course i in term j alone.
-pub fn placed(y: Year, i: usize, j: usize) -> Year
-    requires sound { Sound y }
-    requires i_lt_courses { i < y.courses }
-    requires j_bound { j < 16 }
-    ensures { result ≡ placed y i j }
-{
-    with_list(y, i, power(j))
-}
-
-// Course i, which lists term j, without it.
-pub fn struck(y: Year, i: usize, j: usize) -> Year
-    requires sound { Sound y }
-    requires i_lt_courses { i < y.courses }
-    requires j_bound { j < 16 }
-    requires j_value { lists (course_at y i) j ≡ true }
-    ensures { result ≡ struck y i j }
-{
-    with_list(y, i, y.list[i] - power(j))
-}
-
 // Term j is on the list.
 pub fn lists(list: u16, j: usize) -> bool
     requires { j < 16 }
     ensures { result ≡ has list j }
 {
     (list >> j) % 2 == 1
+}
+
+// Term j with tighter bounds, where one moved.
+pub fn bound(y: &mut Year, j: usize, w: Tight)
+    requires { j < 16 }
+    ensures { y.new ≡ choose w.altered (with_term y.old j w.term) y.old }
+{
+    if w.altered {
+        y.term[j] = w.term;
+    }
+}
+
+// Another list of course i, and the sums that this makes.
+pub fn relist(y: &mut Year, i: usize, list: u16)
+    requires sound { Sound y.old }
+    requires course_there { i < y.old.courses }
+    ensures { y.new ≡ with_list y.old i list }
+{
+    let c = pairs::course_of(y.weight[i], y.list[i]);
+    y.sums = summing::changed(y.sums, c, list);
+    y.list[i] = list;
+}
+
+// Course i in term j alone.
+pub fn place(y: &mut Year, i: usize, j: usize)
+    requires sound { Sound y.old }
+    requires course_there { i < y.old.courses }
+    requires term_there { j < 16 }
+    ensures { y.new ≡ placed y.old i j }
+{
+    relist(y, i, power(j));
+}
+
+// Course i, which lists term j, without it.
+pub fn strike(y: &mut Year, i: usize, j: usize)
+    requires sound { Sound y.old }
+    requires course_there { i < y.old.courses }
+    requires term_there { j < 16 }
+    requires listed { lists (course_at y.old i) j ≡ true }
+    ensures { y.new ≡ struck y.old i j }
+{
+    relist(y, i, y.list[i] - power(j));
 }

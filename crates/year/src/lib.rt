@@ -16,15 +16,15 @@ ghost use Rattle.std.specs.Prelude.{◌≡◌};
 ghost use Rattle.year.specs.Doors.{empty_year};
 
 // A number of credits. Never compared with a number of courses.
-#[derive(Clone, Copy)]
+#[derive(Clone, Copy, Default, PartialEq, Eq)]
 pub struct Credits(pub u32);
 
 // A number of courses.
-#[derive(Clone, Copy)]
+#[derive(Clone, Copy, Default, PartialEq, Eq)]
 pub struct Courses(pub u32);
 
 // A term's bounds: credits from `low` to `high`, and a count of courses from `least` to `most`.
-#[derive(Clone, Copy)]
+#[derive(Clone, Copy, Default)]
 pub struct Term {
     pub low: Credits,
     pub high: Credits,
@@ -40,7 +40,7 @@ pub struct Course {
 }
 
 // The four sums of a term: the credits fixed in it (p), those fixed or open (P), the number fixed and the number open.
-#[derive(Clone, Copy)]
+#[derive(Clone, Copy, Default, PartialEq, Eq)]
 pub struct Sums {
     pub fixed: Credits,
     pub possible: Credits,
@@ -61,13 +61,13 @@ pub struct Year {
 }
 
 // What a bound is of: a term's credits or the number of its courses. Each has a bound on either side.
-#[derive(Clone, Copy)]
+#[derive(Clone, Copy, PartialEq, Eq)]
 pub enum Quantity {
     Credits,
     Counts,
 }
 
-#[derive(Clone, Copy)]
+#[derive(Clone, Copy, PartialEq, Eq)]
 pub enum Side {
     Low,
     High,
@@ -81,10 +81,9 @@ pub struct Tight {
     pub crossed: bool,
 }
 
-// How a narrowing ended: done, or refused by 8, 10, 11 or 12.
-#[derive(Clone, Copy)]
-pub enum Narrowing {
-    Done,
+// Why a narrowing is refused: by 8, 10, 11 or 12.
+#[derive(Clone, Copy, PartialEq, Eq)]
+pub enum NarrowingRefusal {
     Unsound,
     Missing,
     Outside,
@@ -93,14 +92,13 @@ pub enum Narrowing {
 
 #[derive(Clone, Copy)]
 pub struct Narrowed {
-    pub answer: Narrowing,
+    pub answer: Result<(), NarrowingRefusal>,
     pub year: Year,
 }
 
-// The imbalance of a settled year, or refusal 8 or 14.
-#[derive(Clone, Copy)]
-pub enum Measured {
-    Imbalance(u64),
+// Why a year has no imbalance: it is not sound, or not settled; refusal 8 or 14.
+#[derive(Clone, Copy, PartialEq, Eq)]
+pub enum ImbalanceRefusal {
     Unsound,
     Unsettled,
 }
@@ -122,24 +120,13 @@ impl Year {
     pub fn empty() -> Year
         ensures { result ≡ empty_year }
     {
-        let t = Term {
-            low: Credits(0),
-            high: Credits(0),
-            least: Courses(0),
-            most: Courses(0),
-        };
-        let term = [t; Year::TERMS];
-        let weight = [0u32; Year::COURSES];
-        let list = [0u16; Year::COURSES];
-        let z = summing::nothing();
-        let sums = [z; Year::TERMS];
         Year {
             terms: 1,
             courses: 0,
-            term: term,
-            weight: weight,
-            list: list,
-            sums: sums,
+            term: [Term::default(); Year::TERMS],
+            weight: [0; Year::COURSES],
+            list: [0; Year::COURSES],
+            sums: [Sums::default(); Year::TERMS],
         }
     }
 }

@@ -10,7 +10,7 @@ pub fn course_of(weight: u32, list: u16) -> Course
 {
     Course {
         weight: Credits(weight),
-        list: list,
+        list,
     }
 }
 

@@ -9,12 +9,10 @@ use crate::{Course, Term, Year, pairs, summing};
 fn term_sound(t: Term) -> bool
     ensures { result ≡ term_sound t }
 {
-    let credits = Year::CREDITS;
-    let count = Year::COUNT;
     (t.low.0 <= t.high.0)
-        & (t.high.0 <= credits.0)
+        & (t.high.0 <= Year::CREDITS.0)
         & (t.least.0 <= t.most.0)
-        & (t.most.0 <= count.0)
+        & (t.most.0 <= Year::COUNT.0)
 }
 
 fn term_blank(t: Term) -> bool
@@ -27,8 +25,10 @@ fn course_sound(c: Course, terms: usize) -> bool
     requires { terms ≤ 16 }
     ensures { result ≡ course_sound c terms }
 {
-    let weight = Year::WEIGHT;
-    (1 <= c.weight.0) & (c.weight.0 <= weight.0) & (1 <= c.list) & ((c.list as u32) >> terms == 0)
+    (1 <= c.weight.0)
+        & (c.weight.0 <= Year::WEIGHT.0)
+        & (1 <= c.list)
+        & (u32::from(c.list) >> terms == 0)
 }
 
 fn course_blank(c: Course) -> bool
@@ -58,8 +58,8 @@ fn course_good(c: Course, i: usize, courses: usize, terms: usize) -> bool
     }
 }
 
-fn terms_good(y: Year) -> bool
-    ensures { result ≡ all 16 (term_good y) }
+fn terms_good(y: &Year) -> bool
+    ensures { result ≡ all 16 (term_good y.now) }
 {
     let mut good = true;
     for j in 0..Year::TERMS {
@@ -68,9 +68,9 @@ fn terms_good(y: Year) -> bool
     good
 }
 
-fn courses_good(y: Year) -> bool
-    requires { y.terms ≤ 16 }
-    ensures { result ≡ all 64 (course_good y) }
+fn courses_good(y: &Year) -> bool
+    requires { y.now.terms ≤ 16 }
+    ensures { result ≡ all 64 (course_good y.now) }
 {
     let mut good = true;
     for i in 0..Year::COURSES {
@@ -81,38 +81,33 @@ fn courses_good(y: Year) -> bool
 }
 
 // The year value is sound, whatever its sums are.
-pub fn is_sound_but_sums(y: Year) -> bool
-    ensures { result ≡ sound_but_sums y }
+pub fn is_sound_but_sums(y: &Year) -> bool
+    ensures { result ≡ sound_but_sums y.now }
 {
-    if y.terms < 1 {
-        return false;
-    }
-    if Year::TERMS < y.terms {
-        return false;
-    }
-    if Year::COURSES < y.courses {
-        return false;
-    }
-    terms_good(y) & courses_good(y)
+    let sized = (1 <= y.terms) & (y.terms <= Year::TERMS) & (y.courses <= Year::COURSES);
+    sized && terms_good(y) && courses_good(y)
 }
 
 // The sums of all sixteen entries are those over the lists.
-fn sums_good(y: Year) -> bool
-    requires { sound_but_sums y ≡ true }
-    ensures { result ≡ all 16 (sums_good y) }
+fn sums_good(y: &Year) -> bool
+    requires { sound_but_sums y.now ≡ true }
+    ensures { result ≡ all 16 (sums_good y.now) }
 {
-    let w = y.weight;
-    let l = y.list;
-    let sums = y.sums;
-    summing::all_same(sums, summing::sums_over(&w, &l, y.terms, y.courses))
+    y.sums == summing::sums_over(&y.weight, &y.list, y.terms, y.courses)
 }
 
-// The year value is sound.
+impl Year {
+    // The year value is sound.
+    pub fn is_sound(&self) -> bool
+        ensures { result ≡ is_sound self.now }
+    {
+        is_sound_but_sums(self) && sums_good(self)
+    }
+}
+
+// The same of a year by value.
 pub fn is_sound(y: Year) -> bool
     ensures { result ≡ is_sound y }
 {
-    if is_sound_but_sums(y) {
-        return sums_good(y);
-    }
-    false
+    y.is_sound()
 }

@@ -1,24 +1,17 @@
 // The sums of sixteen terms: over the courses of two columns, and after the list of one course has changed.
 ghost use Rattle.std.specs.Prelude.{◌≡◌, ℕ, ◌≤◌, ◌<◌, ◌^◌, length, get_or};
-ghost use Rattle.theory.specs.Sum.{pick};
+ghost use Rattle.theory.specs.Choice.{choose};
 ghost use Rattle.theory.specs.Tab.{tab};
-ghost use Rattle.theory.specs.Tests.{all};
 ghost use Rattle.year.specs.Sums.{no_sums, sums_in};
-ghost use Rattle.year.specs.Sound.{sums_same};
 ghost use Rattle.year.specs.SumsOf.{sums_to, part_of, Within, sums_moved, changed_at};
 
 use crate::{Course, Courses, Credits, Sums, Year, doors, pairs};
 
-// A term that no course lists.
-pub fn nothing() -> Sums
-    ensures { result ≡ no_sums }
+// The first where the test passes, the second where it fails: a loop that chooses by this call has no branch.
+fn choose<T: Copy>(test: bool, a: T, b: T) -> T
+    ensures { result ≡ choose test a b }
 {
-    Sums {
-        fixed: Credits(0),
-        possible: Credits(0),
-        placed: Courses(0),
-        free: Courses(0),
-    }
+    if test { a } else { b }
 }
 
 // ---- all courses
@@ -31,17 +24,11 @@ struct ShortCredits(u16);
 #[derive(Clone, Copy)]
 struct ShortCourses(u16);
 
-// x where the test passes, and 0 where it fails.
-fn picked_short(test: bool, x: u16) -> u16
-    ensures { result ≡ pick test x }
-{
-    if test { x } else { 0 }
-}
-
 // The sums of term j over the first n courses, with no branch in the loop.
 fn sums_in(weight: &[u32], list: &[u16], n: usize, j: usize) -> Sums
-    requires n_bound { (n ≤ 64) × (n ≤ length weight.now) × (n ≤ length list.now) × (j < 16) }
-    requires by_index { (i : ℕ) → i < n → get_or weight.now i 0 ≤ 1000 }
+    requires courses_there { (n ≤ 64) × (n ≤ length weight.now) × (n ≤ length list.now) }
+    requires term_there { j < 16 }
+    requires weights_small { (i : ℕ) → i < n → get_or weight.now i 0 ≤ 1000 }
     ensures { result ≡ sums_to weight.now list.now n j }
 {
     let alone = doors::power(j);
@@ -53,82 +40,54 @@ fn sums_in(weight: &[u32], list: &[u16], n: usize, j: usize) -> Sums
         let w = weight[i] as u16;
         let l = list[i];
         let lists = doors::lists(l, j);
-        fixed.0 += picked_short(l == alone, w);
-        possible.0 += picked_short(lists, w);
-        placed.0 += picked_short(l == alone, 1);
-        listed.0 += picked_short(lists, 1);
+        fixed.0 += choose(l == alone, w, 0);
+        possible.0 += choose(lists, w, 0);
+        placed.0 += u16::from(l == alone);
+        listed.0 += u16::from(lists);
     }
     Sums {
-        fixed: Credits(fixed.0 as u32),
-        possible: Credits(possible.0 as u32),
-        placed: Courses(placed.0 as u32),
-        free: Courses((listed.0 - placed.0) as u32),
+        fixed: Credits(u32::from(fixed.0)),
+        possible: Credits(u32::from(possible.0)),
+        placed: Courses(u32::from(placed.0)),
+        free: Courses(u32::from(listed.0 - placed.0)),
     }
 }
 
 // The sums of sixteen entries over the first n courses, which list none but the first m terms: those of the others are 0.
 pub fn sums_over(weight: &[u32], list: &[u16], m: usize, n: usize) -> [Sums; Year::TERMS]
-    requires n_bound { (n ≤ 64) × (n ≤ length weight.now) × (n ≤ length list.now) × (m ≤ 16) }
-    requires by_index { (i : ℕ) → i < n → (get_or weight.now i 0 ≤ 1000) × (get_or list.now i 0 < 2 ^ m) }
+    requires courses_there { (n ≤ 64) × (n ≤ length weight.now) × (n ≤ length list.now) }
+    requires terms_there { m ≤ 16 }
+    requires courses_sized { (i : ℕ) → i < n → (get_or weight.now i 0 ≤ 1000) × (get_or list.now i 0 < 2 ^ m) }
     ensures { result ≡ tab 16 (sums_to weight.now list.now n) }
 {
-    let z = nothing();
-    let mut s = [z; Year::TERMS];
+    let mut s = [Sums::default(); Year::TERMS];
     for j in 0..m {
         s[j] = sums_in(weight, list, n, j);
     }
     s
 }
 
-// Two terms have the same four sums.
-fn same(a: Sums, b: Sums) -> bool
-    ensures { result ≡ sums_same a b }
-{
-    (a.fixed.0 == b.fixed.0)
-        & (a.possible.0 == b.possible.0)
-        & (a.placed.0 == b.placed.0)
-        & (a.free.0 == b.free.0)
-}
-
-pub fn all_same(a: [Sums; Year::TERMS], b: [Sums; Year::TERMS]) -> bool
-    ensures { result ≡ all 16 (λ k. sums_same (sums_in a k) (sums_in b k)) }
-{
-    let mut good = true;
-    for k in 0..Year::TERMS {
-        good = good & same(a[k], b[k]);
-    }
-    good
-}
-
 // ---- one list changed
-
-// x where the test passes, and 0 where it fails.
-fn picked(test: bool, x: u32) -> u32
-    ensures { result ≡ pick test x }
-{
-    if test { x } else { 0 }
-}
 
 // What a course adds to the sums of term k.
 fn part_of(c: Course, k: usize) -> Sums
     requires { k < 16 }
     ensures { result ≡ part_of c k }
 {
-    let w = c.weight.0;
     let fixed = pairs::is_fixed(c, k);
     let lists = doors::lists(c.list, k);
     Sums {
-        fixed: Credits(picked(fixed, w)),
-        possible: Credits(picked(lists, w)),
-        placed: Courses(picked(fixed, 1)),
-        free: Courses(picked(lists & !fixed, 1)),
+        fixed: choose(fixed, c.weight, Credits(0)),
+        possible: choose(lists, c.weight, Credits(0)),
+        placed: Courses(u32::from(fixed)),
+        free: Courses(u32::from(lists & !fixed)),
     }
 }
 
 // The sums of a term, with what a course adds in the place of what it added.
 fn moved(s: Sums, goes: Sums, comes: Sums) -> Sums
-    requires within { Within s goes }
-    requires fixed_bound { (comes.fixed.0 ≤ 1000) × (comes.possible.0 ≤ 1000) × (comes.placed.0 ≤ 1) × (comes.free.0 ≤ 1) }
+    requires goes_within { Within s goes }
+    requires comes_small { (comes.fixed.0 ≤ 1000) × (comes.possible.0 ≤ 1000) × (comes.placed.0 ≤ 1) × (comes.free.0 ≤ 1) }
     ensures { result ≡ sums_moved s goes comes }
 {
     Sums {

@@ -1,10 +1,14 @@
 -- `turfsteeple_read`: the code of what reading answers.
+use mathlib.Core.Path.{sym}
 use Rattle.boundary.proofs.CallLaws as law
-use Rattle.boundary.proofs.SmallLaws.{answer_small}
+use Rattle.boundary.proofs.SmallLaws.{place_small}
 use Rattle.boundary.proofs.turfsteeple_read.Goals as goal
 
-pub reading-requires : goal.reading-requires
-reading-requires c = rw c.read-got.ensures (answer_small _)
+pub refused-requires : goal.refused-requires
+refused-requires c = place_small _ _ (sym c.in-Err.ensures)
 
-pub returns : goal.returns
-returns c = law.read_ends _ _ c.read-got.ensures _ c.reading.ensures
+pub returns-in-Ok : goal.returns-in-Ok
+returns-in-Ok c = law.read_done _ _ (sym c.in-Ok.ensures)
+
+pub returns-in-Err : goal.returns-in-Err
+returns-in-Err c = law.read_refused _ _ (sym c.in-Err.ensures) _ c.refused.ensures

@@ -1,35 +1,36 @@
 -- `course_line`: number and weight, a blank, the terms, and the end.
-use Rattle.display.specs.Listing.{course_line}
+use Rattle.std.proofs.Common.{◌∷◌, [], ◌++◌}
+use Rattle.text.specs.Text.{newline, blank, row_of, terms_of}
+use Rattle.text.specs.Page.{Room}
 use Rattle.text.proofs.TextLaws as text
-use Rattle.display.proofs.ListingLaws as law
+use Rattle.display.specs.Listing.{course_word, course_line}
+use Rattle.display.proofs.ListingLaws.{rooms}
 use Rattle.display.proofs.course_line.Goals as goal
 use Rattle.display.proofs.course_line.Goals.{Start}
 
--- room for its parts
-rooms : (c : Start) → law.CourseRooms c.args.buf.now c.args.at c.args.i c.args.c
-rooms c = law.course_rooms c.args.buf.now c.args.at c.args.i c.args.c c.requires.c_in_bounds
+-- room for all but the end, and for the parts before
+three : (c : Start) → let p = row_of course_word (c.args.i ∷ c.args.c.weight.0 ∷ []) in Room c.args.page.now (p ++ blank ++ terms_of c.args.c.list)
+unfolding course_line
+three c = text.room_first _ _ newline c.requires.room
 
-pub row-a-requires : goal.row-a-requires
-row-a-requires c = (rooms (goal.at.row-a-requires c).Start).0
-
-pub put-b-requires : goal.put-b-requires
-put-b-requires c = text.room _ c.row-a.ensures (rooms (goal.at.put-b-requires c).Start).1
-
-pub terms-d-requires : goal.terms-d-requires
-terms-d-requires c =
-    let h = rooms (goal.at.terms-d-requires c).Start in
-    text.room _ (text.puts c.row-a.ensures c.put-b.ensures h.1) h.2
+pub row-requires : goal.row-requires
+row-requires c = (rooms _ _ blank (terms_of c.args.c.list) (three (goal.at.row-requires c).Start)).0
 
 pub put-requires : goal.put-requires
+put-requires c = text.room _ _ _ c.row.ensures (rooms _ _ blank (terms_of c.args.c.list) (three (goal.at.put-requires c).Start)).1
+
+pub terms-requires : goal.terms-requires
+terms-requires c = text.room _ _ _ (text.puts _ _ _ c.row.ensures c.put.ensures) (three (goal.at.terms-requires c).Start)
+
+pub put-requires-2 : goal.put-requires-2
 unfolding course_line
-put-requires c =
-    let h = rooms (goal.at.put-requires c).Start in
-    let some = text.puts c.row-a.ensures c.put-b.ensures h.1 in
-    text.room _ (text.puts some c.terms-d.ensures h.2) c.requires.c_in_bounds
+put-requires-2 c =
+    let row = row_of course_word (c.args.i ∷ c.args.c.weight.0 ∷ []) in
+    let some = text.puts _ row blank c.row.ensures c.put.ensures in
+    text.room _ _ newline (text.puts _ (row ++ blank) _ some c.terms.ensures) c.requires.room
 
 pub returns : goal.returns
 unfolding course_line
 returns c =
-    let h = rooms (goal.at.returns c).Start in
-    let some = text.puts c.row-a.ensures c.put-b.ensures h.1 in
-    text.puts (text.puts some c.terms-d.ensures h.2) c.put.ensures c.requires.c_in_bounds
+    let some = text.puts _ _ _ c.row.ensures c.put.ensures in
+    text.puts _ _ _ (text.puts _ _ _ some c.terms.ensures) c.put-2.ensures

@@ -1,43 +1,25 @@
--- `listing`: the page has room for every listing.
-use Prim.Native.Nat.{◌≤◌}
-use mathlib.Core.Path.{sym}
-use native.Mathlib.Omega.{arith}
-use lib.ListN.{length}
-use lib.Seq.{length-take-le}
+-- `listing`: the page has room for every listing, and holds that of the list.
+use Rattle.std.proofs.Common.{◌++◌, ◌≡◌, length, ap, ◌∙◌, arith}
+use Rattle.display.specs.Listing.{listing_of}
 use Rattle.display.proofs.ListingLaws as law
 use Rattle.display.proofs.LongestLaws.{longest}
 use Rattle.display.proofs.listing.Goals as goal
-use Rattle.display.proofs.listing.Goals.{After-received-n}
+use Rattle.display.proofs.listing.Goals.{After-text-text}
 
--- the text is within the page
-long : (c : After-received-n) → c.received-n.result ≤ 3436
-long c =
-    let s = c.args.list.now in
-    omega (arith, law.page_length s c.received-n.ensures, longest s)
+-- the text on the page
+printed : (c : After-text-text) → c.text-text.result.now ≡ listing_of c.args.list.now
+printed c = c.text-text.ensures ∙ c.received.ensures ∙ ap (λ d. d ++ listing_of c.args.list.now) c.new-page.ensures
 
-fits : (c : After-received-n) → c.received-n.result ≤ length c.received-n.new.buf
-fits c = omega (arith, long c, c.received-n.ensures.long)
-
-pub received-n-requires : goal.received-n-requires
-received-n-requires c = longest c.args.list.now
+pub received-requires : goal.received-requires
+received-requires c = omega (arith, longest c.args.list.now, ap length c.new-page.ensures)
 
 pub returns-then-out-n : goal.returns-then-out-n
 returns-then-out-n c =
-    let a = c.args in
-    let all = law.list_short a.list.now c.received-n.ensures a.out.now c.if-out-n.true in record { value = all.0; out_after = all.1 }
-
-pub slice_bounds-page-end : goal.slice_bounds-page-end
-slice_bounds-page-end c = omega (arith, long (goal.at.slice_bounds-page-end c).After-received-n)
-
-pub slice_bounds-put-end : goal.slice_bounds-put-end
-slice_bounds-put-end c = sym (length-take-le _ _ (fits (goal.at.slice_bounds-put-end c).After-received-n))
-
-pub put-requires : goal.put-requires
-put-requires c =
-    let a = c.args in
-    law.page_room a.list.now c.received-n.ensures a.out.now c.if-out-n.false
+    let all = law.ends_short _ _ c.args.out.now (printed (goal.at.returns-then-out-n c).After-text-text) c.if-out-n.true in
+    record { value = all.0; out_after = all.1 }
 
 pub returns : goal.returns
 returns c =
-    let a = c.args in
-    let all = law.list_done a.list.now c.received-n.ensures a.out.now _ _ c.if-out-n.false c.put.ensures in record { value = all.0; out_after = all.1 }
+    let text = printed (goal.at.returns c).After-text-text in
+    let all = law.ends_done _ _ c.args.out.now text _ c.copy_from_slice.ensures.after c.if-out-n.false in
+    record { value = all.0; out_after = all.1 }

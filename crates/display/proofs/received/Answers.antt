@@ -1,25 +1,26 @@
 -- `received`: a list that reads is filtered, and a refused one is told by number and place.
-use mathlib.Core.Path.{refl, sym, ap, ◌∙◌}
-use Rattle.records.specs.declared.Received.{Received}
+use Rattle.std.proofs.Common.{◌++◌, sym, ap, subst, ◌∙◌}
+use Rattle.text.specs.Page.{Room}
+use Rattle.records.proofs.ListLaws.{read_sound}
 use Rattle.display.proofs.ListingLaws as law
 use Rattle.display.proofs.received.Goals as goal
 
-pub filtered-requires : goal.filtered-requires
-filtered-requires c =
-    let told = c.in-Done.is in
-    record { sound = law.received_sound _ _ c.read-got.ensures told; y_in_bounds = law.received_room _ _ c.read-got.ensures _ told _ refl _ c.requires }
+pub filtered-requires-clause-sound : goal.filtered-requires-clause-sound
+filtered-requires-clause-sound c = read_sound _ _ (sym c.in-Ok.ensures)
 
-pub overflow_cast-k : goal.overflow_cast-k
-overflow_cast-k c = record { fits = law.place_small _ _ _ (sym (ap (λ (r : Received). r.answer) c.read-got.ensures) ∙ c.in-Refused.is) }
+pub filtered-requires-clause-room : goal.filtered-requires-clause-room
+filtered-requires-clause-room c = subst (Room c.args.page.now) (law.received_by _ _ (sym c.in-Ok.ensures)) c.requires
+
+pub overflow_cast-refusal : goal.overflow_cast-refusal
+overflow_cast-refusal c = record { fits = law.place_small _ _ (sym c.in-Err.ensures) }
 
 pub with_pair-requires : goal.with_pair-requires
 with_pair-requires c =
-    law.refused_room _ _ c.read-got.ensures _ _ _ c.in-Refused.is c.fault_number.ensures.value _ c.requires
+    subst (Room c.args.page.now) (law.refused_by _ _ _ (sym c.in-Err.ensures) c.fault_number-number.ensures.number) c.requires
 
-pub returns-in-Done : goal.returns-in-Done
-returns-in-Done c = law.received_put _ _ c.read-got.ensures _ c.in-Done.is _ refl _ _ _ c.filtered.ensures
+pub returns-in-Ok : goal.returns-in-Ok
+returns-in-Ok c = c.filtered.ensures ∙ ap (λ t. c.args.page.now ++ t) (sym (law.received_by _ _ (sym c.in-Ok.ensures)))
 
-pub returns-in-Refused : goal.returns-in-Refused
-returns-in-Refused c =
-    let number = c.fault_number.ensures.value in
-    law.refused_put _ _ c.read-got.ensures _ _ _ c.in-Refused.is number _ _ _ c.with_pair.ensures
+pub returns-in-Err : goal.returns-in-Err
+returns-in-Err c =
+    c.with_pair.ensures ∙ ap (λ t. c.args.page.now ++ t) (sym (law.refused_by _ _ _ (sym c.in-Err.ensures) c.fault_number-number.ensures.number))

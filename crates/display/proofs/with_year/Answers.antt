@@ -1,29 +1,29 @@
 -- `with_year`: the answer, the terms and the courses.
-use Rattle.display.specs.Listing.{year_text}
+use Rattle.std.proofs.Common.{◌∷◌, [], ◌++◌}
+use Rattle.text.specs.Text.{line_of}
+use Rattle.text.specs.Page.{Room}
 use Rattle.text.proofs.TextLaws as text
-use Rattle.display.proofs.ListingLaws as law
+use Rattle.records.specs.Writing.{joined}
+use Rattle.display.specs.Listing.{year_text, term_line_at, course_line_at}
+use Rattle.display.proofs.ListingLaws.{rooms}
 use Rattle.display.proofs.with_year.Goals as goal
 use Rattle.display.proofs.with_year.Goals.{Start}
 
--- room for its parts
-rooms : (c : Start) → law.YearRooms c.args.buf.now c.args.word.now c.args.rounds c.args.y
-rooms c = law.year_rooms c.args.buf.now c.args.word.now c.args.rounds c.args.y c.requires.y_in_bounds
+-- room for the answer, and with the terms
+fits : (c : Start) → let p = line_of c.args.word.now (c.args.rounds ∷ []) in Room c.args.page.now p × Room c.args.page.now (p ++ joined (term_line_at c.args.y.now) c.args.y.now.terms)
+unfolding year_text
+fits c = rooms _ _ _ (joined (course_line_at c.args.y.now) c.args.y.now.courses) c.requires.room
 
-pub line-a-requires : goal.line-a-requires
-line-a-requires c = (rooms (goal.at.line-a-requires c).Start).0
+pub line-requires : goal.line-requires
+line-requires c = (fits (goal.at.line-requires c).Start).0
 
-pub term_lines-b-requires : goal.term_lines-b-requires
-term_lines-b-requires c =
-    let b = (goal.at.term_lines-b-requires c).Start in
-    record { sound = b.requires.sound; terms_in_bounds = text.room _ c.line-a.ensures (rooms b).1 }
+pub term_lines-requires-clause-room : goal.term_lines-requires-clause-room
+term_lines-requires-clause-room c = text.room _ _ _ c.line.ensures (fits (goal.at.term_lines-requires-clause-room c).Start).1
 
-pub course_lines-requires : goal.course_lines-requires
-course_lines-requires c =
-    let b = (goal.at.course_lines-requires c).Start in
-    record { sound = b.requires.sound; courses_in_bounds = text.room _ (text.puts c.line-a.ensures c.term_lines-b.ensures (rooms b).1) (rooms b).2 }
+pub course_lines-requires-clause-room : goal.course_lines-requires-clause-room
+unfolding year_text
+course_lines-requires-clause-room c = text.room _ _ _ (text.puts _ _ _ c.line.ensures c.term_lines.ensures) c.requires.room
 
 pub returns : goal.returns
 unfolding year_text
-returns c =
-    let h = rooms (goal.at.returns c).Start in
-    text.puts (text.puts c.line-a.ensures c.term_lines-b.ensures h.1) c.course_lines.ensures h.2
+returns c = text.puts _ _ _ (text.puts _ _ _ c.line.ensures c.term_lines.ensures) c.course_lines.ensures

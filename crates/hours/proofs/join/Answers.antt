@@ -1,13 +1,32 @@
 -- `join`: the terms' refusal, or the hours behind their year.
-use mathlib.Core.Path.{◌∙◌}
-use Rattle.hours.proofs.JoinLaws as law
+use mathlib.Core.Path.{◌≡◌, ◌∙◌, ap, sym}
+use borrow.Author.Rules.{rules}
+use Rattle.std.specs.Prelude.{Err}
+use Rattle.records.specs.declared.Refusal.{Refusal}
+use Rattle.records.specs.Reading.{done}
+use Rattle.records.proofs.ResultLaws.{error_of, value_of}
+use Rattle.hours.specs.declared.JoiningRefusal.TheVariants.{InTerms, InHours}
+use Rattle.hours.specs.Joining.{term_list, in_hours}
+use Rattle.hours.proofs.JoinLaws.{listed_under, join_behind, join_in_terms, front_sound}
 use Rattle.hours.proofs.join.Goals as goal
+use Rattle.hours.proofs.join.Goals.{In_ok-front}
 
-pub with_hours-requires : goal.with_hours-requires
-with_hours-requires c = let all = law.front_sound c.args.terms.now c.args.hours.now _ c.read_terms-front.ensures c.in-Done.is in record { sound = all.0; courses_value = all.1 }
+front_done : (c : In_ok-front) → term_list c.args.terms.now ≡ done c.in_ok-front.front
+front_done c = sym c.read_terms.ensures ∙ value_of _ _ c.map_err.ensures.variant _ c.map_err.ensures.cases _ c.in_ok-front.was
 
-pub returns-in-Done : goal.returns-in-Done
-returns-in-Done c = c.with_hours.ensures ∙ law.join_behind _ _ _ c.read_terms-front.ensures c.in-Done.is
+pub returns-in_err-front : goal.returns-in_err-front
+returns-in_err-front c =
+    let each : (q : Refusal) → c.read_terms.result ≡ Err q → c.map_err.result ≡ Err (InTerms q) = λ q e. let h = rw e at c.map_err.ensures.cases in search rules in
+    let q = error_of _ _ c.map_err.ensures.variant InTerms each _ c.in_err-front.was in
+    let back : c.from_residual.result ≡ Err c.in_err-front.field-0.0 = search rules in
+    back ∙ ap Err {y = InTerms q.0} q.2 ∙ join_in_terms c.args.terms.now c.args.hours.now q.0 (sym c.read_terms.ensures ∙ q.1)
 
-pub returns-in-Refused : goal.returns-in-Refused
-returns-in-Refused c = law.join_in_terms _ _ _ c.read_terms-front.ensures _ _ c.in-Refused.is
+pub read_hours-requires : goal.read_hours-requires
+read_hours-requires c =
+    let all = front_sound c.args.terms.now c.in_ok-front.front (front_done (goal.at.read_hours-requires c).In_ok-front) in
+    record { sound = all.0; no_course = all.1 }
+
+pub returns : goal.returns
+returns c =
+    let each : (q : Refusal) → c.read_hours.result ≡ Err q → c.map_err-2.result ≡ Err (InHours q) = λ q e. let h = rw e at c.map_err-2.ensures.cases in search rules in
+    listed_under _ _ _ c.map_err-2.ensures.cases each ∙ ap in_hours c.read_hours.ensures ∙ join_behind c.args.terms.now c.args.hours.now c.in_ok-front.front (front_done (goal.at.returns c).In_ok-front)

@@ -1,68 +1,48 @@
--- The loop's invariant: the state after the first j terms, sums included. The loop ends at the last term, or where no plan was found.
-use Prim.Native.Nat.{◌<◌}
+-- The loop's invariant: the step after the first j terms.
 use mathlib.Core.Path.{◌≡◌, refl, ap, ◌∙◌}
-use lib.Dec.{eqb, ltb}
-use borrow.Author.Tests.{ltb-true, eqb-true}
-use borrow.Author.Rules.{rules}
+use Rattle.std.specs.Prelude.{Ok, Err}
 use Rattle.theory.specs.Fold.{fold}
-use Rattle.theory.proofs.TestLaws.{and_true}
-use Rattle.frame.specs.State.{held, step_in}
+use Rattle.std.proofs.lemmas.Result.{err_from_is_err_and}
 use Rattle.rules.specs.Lists.{rule10}
-use Rattle.frame.specs.declared.State.{State}
-use Rattle.frame.proofs.TermsAt.{ends}
-use Rattle.lists.proofs.OverLaws.{TermTurn, fits_10, turn_10}
+use Rattle.frame.specs.State.{year_in, step_in, step_of}
+use Rattle.frame.proofs.TermsAt.{terms_at, turn, stop}
+use Rattle.lists.specs.TermVerdict.{term_judged}
+use Rattle.lists.proofs.OverLaws.{lists_10, fits_10, says_10, says_nothing, says_courses, says_dead}
 use Rattle.lists.proofs.rule_10.Goals as goal
-use Rattle.lists.proofs.rule_10.Goals.{in-Nothing, in_default, After-term_verdict_10-whole, In-loop-j}
-
--- what the loop's test says: a term of the year, and no plan not found yet
-within : (c : In-loop-j) → c.loop-j.j < c.args.s.terms
-within c = ltb-true _ _ (and_true (ltb c.loop-j.j c.args.s.terms) (eqb c.loop-j.z.rule 0) c.loop-j-test.true).0
-
-going : (c : In-loop-j) → c.loop-j.z.rule ≡ 0
-going c = eqb-true _ _ (and_true (ltb c.loop-j.j c.args.s.terms) (eqb c.loop-j.z.rule 0) c.loop-j-test.true).1
-
--- what a turn finds
-at : (c : After-term_verdict_10-whole) → let a = c.args in
-    TermTurn rule10 a.weight.now a.s c.loop-j.z c.loop-j.j c.term_verdict_10-whole.result
-at c =
-    let i = (goal.at.After-term_verdict_10-whole c).In-loop-j in
-    turn_10 c.args.weight.now c.args.s c.requires c.loop-j.j (within i) c.loop-j.z c.loop-j.invariant.1 (going i) c.term_verdict_10-whole.result c.term_verdict_10-whole.ensures
+use Rattle.lists.proofs.rule_10.Goals.{in-Some, in_default, After-term_verdict_10}
 
 pub loop-j-init : goal.loop-j-init
 unfolding fold
-loop-j-init c = (search rules, refl)
+loop-j-init c = refl
 
-pub offset_bounds-s-j : goal.offset_bounds-s-j
-offset_bounds-s-j c = let w = within c in search rules
+pub term_verdict_10-requires : goal.term_verdict_10-requires
+term_verdict_10-requires c =
+    let l = c.loop-j in
+    fits_10 c.args.s.now l.j c.loop-j-test.true l.s l.invariant
 
-pub bounds-s-j : goal.bounds-s-j
-bounds-s-j c = let w = within c in search rules
+pub each_course-requires : goal.each_course-requires
+each_course-requires c =
+    let l = c.loop-j in
+    record { in_range = terms_at rule10 c.args.s.now l.j c.loop-j-test.true l.s l.invariant lists_10 }
 
-pub offset_bounds-z-j : goal.offset_bounds-z-j
-offset_bounds-z-j c = let w = within (goal.at.offset_bounds-z-j c).In-loop-j in search rules
+-- what the rule does at the term
+is : (c : After-term_verdict_10) → let y = year_in c.loop-j.s in rule10 y c.loop-j.j ≡ term_judged c.term_verdict_10.result y c.loop-j.j
+is c =
+    let l = c.loop-j in
+    says_10 c.args.s.now l.j c.loop-j-test.true l.s l.invariant c.term_verdict_10.result c.term_verdict_10.ensures
 
-pub bounds-z-j : goal.bounds-z-j
-bounds-z-j c = let w = within (goal.at.bounds-z-j c).In-loop-j in search rules
-
-pub term_verdict_10-whole-requires : goal.term_verdict_10-whole-requires
-term_verdict_10-whole-requires c =
-    let i = (goal.at.term_verdict_10-whole-requires c).In-loop-j in
-    fits_10 c.args.weight.now c.args.s c.requires c.loop-j.j (within i) c.loop-j.z c.loop-j.invariant.1 (going i)
-
-pub term_judged-z-requires : goal.term_judged-z-requires
-term_judged-z-requires c = let r = (at (goal.at.term_judged-z-requires c).After-term_verdict_10-whole).ready in record { j_lt_terms = r.0; sound = r.1.0; rule_value = r.1.1 }
-
-pub loop-j-smaller : goal.loop-j-smaller
-loop-j-smaller c = let w = within (goal.at.loop-j-smaller c).In-loop-j in search rules
+pub returns-in_err-whole : goal.returns-in_err-whole
+returns-in_err-whole c =
+    let l = c.loop-j in
+    let e = is (goal.at.returns-in_err-whole c).After-term_verdict_10 in
+    let p = err_from_is_err_and c.from_residual.result c.from_residual.ensures.1 in
+    ap (step_of l.s) (p.1 ∙ ap Err p.2) ∙ stop rule10 c.args.s.now l.j c.loop-j-test.true l.s l.invariant l.s _ (says_dead rule10 l.s l.j _ e _ c.in_err-whole.was)
 
 pub loop-j-preserved : goal.loop-j-preserved
 loop-j-preserved c =
-    let w = within (goal.at.loop-j-preserved c).In-loop-j in
-    let t = at (goal.at.loop-j-preserved c).After-term_verdict_10-whole in
-    (search rules, elim c.match-whole.branch [ in-Nothing q ↦ q.z-is ∙ t.says_nothing q.in-Nothing.is | in_default q ↦ q.z-is ∙ q.term_judged-z.ensures ∙ t.is_judged ])
-
-pub returns : goal.returns
-returns c =
-    let a = c.args in
-    let rule = ap (λ (x : State). x.rule) c.loop-j.invariant.1 in
-    c.loop-j.invariant.1 ∙ ap held (ends rule10 (step_in a.weight.now a.s) c.loop-j.j c.loop-j.invariant.0 (rw rule at c.loop-j-test.false))
+    let l = c.loop-j in
+    let e = is (goal.at.loop-j-preserved c).After-term_verdict_10 in
+    elim c.match-branch-2.branch [
+      | in-Some w ↦ ap step_in w.s-is ∙ turn rule10 c.args.s.now l.j c.loop-j-test.true l.s l.invariant w.each_course.new.s (Ok tt) (w.each_course.ensures ∙ says_courses rule10 l.s l.j _ e w.in-Some.whole (c.in_ok-whole.was ∙ ap Ok w.in-Some.is))
+      | in_default w ↦ ap step_in w.s-is ∙ turn rule10 c.args.s.now l.j c.loop-j-test.true l.s l.invariant l.s (Ok tt) (says_nothing rule10 l.s l.j _ e (c.in_ok-whole.was ∙ ap Ok w.in_default.is))
+    ]

@@ -15,7 +15,7 @@ sound : (c : Else-not-is_sound) → Sound c.args.y
 sound c = sound_of c.args.y (passes c)
 
 pub returns-then-not-is_sound : goal.returns-then-not-is_sound
-returns-then-not-is_sound c = let all = law.write_unsound c.args.y c.args.buf.now (sym c.is_sound.ensures ∙ c.if-not-is_sound.true) in record { value = all.0; buf_after = all.1 }
+returns-then-not-is_sound c = let all = law.write_unsound c.args.y c.args.buf.now (sym c.is_sound.ensures ∙ c.if-not-is_sound.true) in record { answer = all.0; buf_after = all.1 }
 
 pub overflow_add-y : goal.overflow_add-y
 overflow_add-y c = omega (arith, sound (goal.at.overflow_add-y c).Else-not-is_sound)
@@ -24,13 +24,12 @@ pub overflow_mul-y : goal.overflow_mul-y
 overflow_mul-y c = omega (arith, sound (goal.at.overflow_mul-y c).Else-not-is_sound)
 
 pub returns-then-buf-y : goal.returns-then-buf-y
-returns-then-buf-y c = let all = law.write_short c.args.y c.args.buf.now (passes (goal.at.returns-then-buf-y c).Else-not-is_sound) c.if-buf-y.true in record { value = all.0; buf_after = all.1 }
+returns-then-buf-y c = let all = law.write_short c.args.y c.args.buf.now (passes (goal.at.returns-then-buf-y c).Else-not-is_sound) c.if-buf-y.true in record { answer = all.0; buf_after = all.1 }
 
-pub write_sound-requires : goal.write_sound-requires
-write_sound-requires c = record { sound = sound (goal.at.write_sound-requires c).Else-not-is_sound; courses_in_bounds = c.if-buf-y.false }
+pub write_sound-requires-clause-sound : goal.write_sound-requires-clause-sound
+write_sound-requires-clause-sound c = sound (goal.at.write_sound-requires-clause-sound c).Else-not-is_sound
 
-pub returns : goal.returns
-returns c =
-    let f = (goal.at.returns c).Else-not-is_sound in
-    let a = f.args in
-    record { value = law.write_done a.y a.buf.now (passes f) c.if-buf-y.false; buf_after = c.write_sound.ensures }
+pub returns-clause-answer : goal.returns-clause-answer
+returns-clause-answer c =
+    let f = (goal.at.returns-clause-answer c).Else-not-is_sound in
+    law.write_done f.args.y f.args.buf.now (passes f) c.if-buf-y.false

@@ -12,7 +12,7 @@ pub returns : goal.returns
 returns g c =
     let n = c.in_ok-n.n in
     let buf = c.fill.new.buf in
-    let listed = c.listing-a.ensures in
+    let listed = c.listing-answer.ensures in
     let empty : List ℕ = replicate 3436 0 in
     let printed : c.front.result.now ≡ listing_of (take n buf) =
     c.front.ensures ∙ (λ i. take (listed_length (listed.value i)) (listed.out_after i)) ∙ listing_whole (take n buf) empty (length-replicate {A = ℕ} 3436 0) in

@@ -1,70 +1,67 @@
--- Each rule starts from the bounds that the rule before it left, and the courses stay. The orders are the year's own.
-use Prim.Native.Nat.{ℕ}
-use mathlib.Core.Path.{◌≡◌, refl, ◌∙◌}
-use Rattle.rules.specs.Step.{Step}
-use Rattle.rules.specs.Round.{in_row, passes_of}
-use Rattle.frame.specs.State.{year_in, step_in}
-use Rattle.frame.specs.declared.Bounds.{Bounds}
-use Rattle.orders.specs.Orders.{orders_of}
-use Rattle.orders.specs.declared.Orders.{Orders}
-use Rattle.frame.proofs.BoundsAt.{BoundsAt, at_start, at_end, sums_fit}
+-- Each rule goes on where the rule before it left off, and the courses stay; one that finds no plan ends the row.
+use mathlib.Core.Path.{ap, ◌∙◌}
+use Rattle.std.specs.Prelude.{Err}
+use Rattle.std.proofs.lemmas.Result.{err_from_is_err_and}
+use Rattle.rules.specs.Step.{over_terms}
+use Rattle.rules.specs.Spares.{rule7, rule8}
+use Rattle.frame.specs.State.{year_in, step_of}
+use Rattle.frame.proofs.BoundsOnly.{BoundsOnly, only_then}
+use Rattle.frame.proofs.StateLaws.{row_stop, sums_fit}
 use Rattle.walks.specs.declared.WalkRule.TheVariants.{LeastCount, MostCount, LeastLoad, MostLoad}
-use Rattle.walks.proofs.WalkRows.{Ready, row, walk_asks}
+use Rattle.walks.proofs.WalkRows.{after, asked}
 use Rattle.walks.proofs.rules_6_to_9.Goals as goal
-use Rattle.walks.proofs.rules_6_to_9.Goals.{After-bounds_of-b, After-walk_rule-b6, After-walk_rule-b7, After-walk_rule-b8, After-walk_rule-b9, Start}
+use Rattle.walks.proofs.rules_6_to_9.Goals.{In_ok-walk_rule, In_ok-walk_rule-2, In_ok-walk_rule-3}
 
--- ---- the state at the start
--- the orders that are lent
-abbrev lent : Start → Orders
-lent b = record { down = b.args.falling.now; up = b.args.rising.now }
+-- ---- behind rules 6 to k
 
-ready : (b : Start) → Ready b.args.weight.now b.args.s (lent b)
-ready b = record { sound = b.requires.sound; orders_are = are }
-  where
-    are : lent b ≡ orders_of (year_in b.args.weight.now b.args.s)
-    are = λ i. record { down = b.requires.falling_value.0 i; up = b.requires.falling_value.1 i }
+after-6 : (c : In_ok-walk_rule) → BoundsOnly (year_in c.args.s.now) (year_in c.walk_rule.new.s)
+after-6 c = after LeastCount c.args.s.now c.walk_rule.new.s c.in_ok-walk_rule.ensures
 
-abbrev from : Start → Step
-from b = step_in b.args.weight.now b.args.s
+after-7 : (c : In_ok-walk_rule-2) → BoundsOnly (year_in c.args.s.now) (year_in c.walk_rule-2.new.s)
+after-7 c = only_then _ _ _ (after-6 (goal.at.In_ok-walk_rule-2 c).In_ok-walk_rule) (after MostCount c.walk_rule.new.s c.walk_rule-2.new.s c.in_ok-walk_rule-2.ensures)
 
-abbrev start : After-bounds_of-b → Start
-start c = (goal.at.After-bounds_of-b c).Start
+after-8 : (c : In_ok-walk_rule-3) → BoundsOnly (year_in c.args.s.now) (year_in c.walk_rule-3.new.s)
+after-8 c = only_then _ _ _ (after-7 (goal.at.In_ok-walk_rule-3 c).In_ok-walk_rule-2) (after LeastLoad c.walk_rule-2.new.s c.walk_rule-3.new.s c.in_ok-walk_rule-3.ensures)
 
--- ---- x are the bounds that rules 6 to k leave
-abbrev After : ℕ → Start → Bounds → Type 0
-After k b x = BoundsAt (from b) x (in_row (passes_of 6 k) (from b))
+pub tallies_of-tallies-requires : goal.tallies_of-tallies-requires
+tallies_of-tallies-requires c = sums_fit (year_in c.args.s.now) c.args.s.now.sound
 
-before-6 : (c : After-bounds_of-b) → After 5 (start c) c.bounds_of-b.result
-before-6 c = at_start _ _ (start c).requires.sound c.bounds_of-b.ensures
+pub walk_rule-requires-2 : goal.walk_rule-requires-2
+walk_rule-requires-2 c =
+    let s = c.args.s.now in
+    let k = asked MostCount s c.walk_rule.new.s (after-6 (goal.at.walk_rule-requires-2 c).In_ok-walk_rule) c.args.rising.now c.requires.in_order.1 _ c.tallies_of-tallies.ensures in
+    record { in_order = k.0; tallied = k.1 }
 
-after-6 : (c : After-walk_rule-b6) → After 6 (start (goal.at.After-walk_rule-b6 c).After-bounds_of-b) c.walk_rule-b6.result
-after-6 c = row (ready (start (goal.at.After-walk_rule-b6 c).After-bounds_of-b)) LeastCount (before-6 (goal.at.After-walk_rule-b6 c).After-bounds_of-b) c.walk_rule-b6.ensures
+pub walk_rule-requires-3 : goal.walk_rule-requires-3
+walk_rule-requires-3 c =
+    let s = c.args.s.now in
+    let k = asked LeastLoad s c.walk_rule-2.new.s (after-7 (goal.at.walk_rule-requires-3 c).In_ok-walk_rule-2) c.args.rising.now c.requires.in_order.1 _ c.tallies_of-tallies.ensures in
+    record { in_order = k.0; tallied = k.1 }
 
-after-7 : (c : After-walk_rule-b7) → After 7 (start (goal.at.After-walk_rule-b7 c).After-bounds_of-b) c.walk_rule-b7.result
-after-7 c = row (ready (start (goal.at.After-walk_rule-b7 c).After-bounds_of-b)) MostCount (after-6 (goal.at.After-walk_rule-b7 c).After-walk_rule-b6) c.walk_rule-b7.ensures
+pub walk_rule-requires-4 : goal.walk_rule-requires-4
+walk_rule-requires-4 c =
+    let s = c.args.s.now in
+    let k = asked MostLoad s c.walk_rule-3.new.s (after-8 (goal.at.walk_rule-requires-4 c).In_ok-walk_rule-3) c.args.falling.now c.requires.in_order.0 _ c.tallies_of-tallies.ensures in
+    record { in_order = k.0; tallied = k.1 }
 
-after-8 : (c : After-walk_rule-b8) → After 8 (start (goal.at.After-walk_rule-b8 c).After-bounds_of-b) c.walk_rule-b8.result
-after-8 c = row (ready (start (goal.at.After-walk_rule-b8 c).After-bounds_of-b)) LeastLoad (after-7 (goal.at.After-walk_rule-b8 c).After-walk_rule-b7) c.walk_rule-b8.ensures
+-- ---- where a rule found no plan
 
-after-9 : (c : After-walk_rule-b9) → After 9 (start (goal.at.After-walk_rule-b9 c).After-bounds_of-b) c.walk_rule-b9.result
-after-9 c = row (ready (start (goal.at.After-walk_rule-b9 c).After-bounds_of-b)) MostLoad (after-8 (goal.at.After-walk_rule-b9 c).After-walk_rule-b8) c.walk_rule-b9.ensures
+pub returns-in_err-walk_rule : goal.returns-in_err-walk_rule
+returns-in_err-walk_rule c =
+    let p = err_from_is_err_and c.from_residual.result c.from_residual.ensures.1 in
+    let t = c.walk_rule.new.s in
+    ap (step_of t) (p.1 ∙ ap Err p.2) ∙ row_stop 7 9 t _ _ c.in_err-walk_rule.ensures
 
-pub tallies_of-t-requires : goal.tallies_of-t-requires
-tallies_of-t-requires c =
-    let b = (goal.at.tallies_of-t-requires c).Start in
-    sums_fit (from b).year b.requires.sound
+pub returns-in_err-walk_rule-2 : goal.returns-in_err-walk_rule-2
+returns-in_err-walk_rule-2 c =
+    let p = err_from_is_err_and c.from_residual-in_err-walk_rule-2.result c.from_residual-in_err-walk_rule-2.ensures.1 in
+    let t = c.walk_rule-2.new.s in
+    ap (step_of t) (p.1 ∙ ap Err p.2)
+    ∙ row_stop 8 9 t _ _ (c.in_err-walk_rule-2.ensures ∙ ap (over_terms rule7) c.in_ok-walk_rule.ensures)
 
-pub walk_rule-b6-requires : goal.walk_rule-b6-requires
-walk_rule-b6-requires c = let all = walk_asks (ready (start c)) LeastCount (before-6 c) c.tallies_of-t.ensures in record { m_bound = all.0; by_index = all.1.0; n_bound = all.1.1.0; by_index_2 = all.1.1.1.0; by_index_3 = all.1.1.1.1.0; tallies_value = all.1.1.1.1.1 }
-
-pub walk_rule-b7-requires : goal.walk_rule-b7-requires
-walk_rule-b7-requires c = let all = walk_asks (ready (start (goal.at.walk_rule-b7-requires c).After-bounds_of-b)) MostCount (after-6 c) c.tallies_of-t.ensures in record { m_bound = all.0; by_index = all.1.0; n_bound = all.1.1.0; by_index_2 = all.1.1.1.0; by_index_3 = all.1.1.1.1.0; tallies_value = all.1.1.1.1.1 }
-
-pub walk_rule-b8-requires : goal.walk_rule-b8-requires
-walk_rule-b8-requires c = let all = walk_asks (ready (start (goal.at.walk_rule-b8-requires c).After-bounds_of-b)) LeastLoad (after-7 c) c.tallies_of-t.ensures in record { m_bound = all.0; by_index = all.1.0; n_bound = all.1.1.0; by_index_2 = all.1.1.1.0; by_index_3 = all.1.1.1.1.0; tallies_value = all.1.1.1.1.1 }
-
-pub walk_rule-b9-requires : goal.walk_rule-b9-requires
-walk_rule-b9-requires c = let all = walk_asks (ready (start (goal.at.walk_rule-b9-requires c).After-bounds_of-b)) MostLoad (after-8 c) c.tallies_of-t.ensures in record { m_bound = all.0; by_index = all.1.0; n_bound = all.1.1.0; by_index_2 = all.1.1.1.0; by_index_3 = all.1.1.1.1.0; tallies_value = all.1.1.1.1.1 }
-
-pub returns : goal.returns
-returns c = c.with_bounds.ensures ∙ at_end _ _ _ (after-9 (goal.at.returns c).After-walk_rule-b9) _ refl
+pub returns-in_err-walk_rule-3 : goal.returns-in_err-walk_rule-3
+returns-in_err-walk_rule-3 c =
+    let p = err_from_is_err_and c.from_residual-in_err-walk_rule-3.result c.from_residual-in_err-walk_rule-3.ensures.1 in
+    let t = c.walk_rule-3.new.s in
+    ap (step_of t) (p.1 ∙ ap Err p.2)
+    ∙ row_stop 9 9 t _ _ (c.in_err-walk_rule-3.ensures ∙ ap (over_terms rule8) (c.in_ok-walk_rule-2.ensures ∙ ap (over_terms rule7) c.in_ok-walk_rule.ensures))

@@ -7,13 +7,7 @@ use borrow.Author.Rules.{rules}
 use Rattle.boundary.proofs.codes.imbalance.Goals as goal
 
 pub pack-requires : goal.pack-requires
-pack-requires c = (search rules, search rules, omega (arith, imbalance_small _ _ (sym c.imbalance_sound-m.ensures ∙ c.in-Imbalance.is)))
+pack-requires c = (search rules, search rules, omega (arith, imbalance_small _ _ (sym c.in-Ok.ensures)))
 
-pub returns-in-Imbalance : goal.returns-in-Imbalance
-returns-in-Imbalance c = c.pack.ensures ∙ sym (ap (λ a. packed (measured_told a)) (sym c.imbalance_sound-m.ensures ∙ c.in-Imbalance.is))
-
-pub returns-in-Unsound : goal.returns-in-Unsound
-returns-in-Unsound c = sym (ap (λ a. packed (measured_told a)) (sym c.imbalance_sound-m.ensures ∙ c.in-Unsound.is))
-
-pub returns-in-Unsettled : goal.returns-in-Unsettled
-returns-in-Unsettled c = sym (ap (λ a. packed (measured_told a)) (sym c.imbalance_sound-m.ensures ∙ c.in-Unsettled.is))
+pub returns-in-Ok : goal.returns-in-Ok
+returns-in-Ok c = c.pack.ensures ∙ ap (λ a. packed (measured_told a)) c.in-Ok.ensures

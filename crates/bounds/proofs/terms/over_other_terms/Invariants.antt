@@ -1,13 +1,12 @@
--- The loop's invariant: the bounds are those that the first j terms leave, each within the sizes, and the totals are theirs.
-use Prim.Native.Nat.{ℕ, ◌≤◌, ◌<◌, ◌-◌}
+-- The loop's invariant: the step in hand is what the first j terms leave, and the totals are those of its bounds.
 use mathlib.Core.Path.{◌≡◌}
-use Rattle.year.specs.Sound.{TermSound}
-use Rattle.bounds.specs.AtTerm.{totals_to, other_terms_at}
-use Rattle.frame.specs.Bounds.{bounds_over, term_in}
+use Rattle.rules.specs.Step.{over_to}
+use Rattle.frame.specs.State.{step_in}
+use Rattle.bounds.specs.AtTerm.{other_rule, totals_to}
 use Rattle.bounds.proofs.terms.over_other_terms.Given as goal
 
 abbrev pub invariant-loop-j : goal.invariant-loop-j
-invariant-loop-j l = (l.j ≤ l.m) × (l.z ≡ bounds_over (other_terms_at l.m l.all) l.initial.z l.j) × (l.x ≡ totals_to l.z.term l.m) × ((k : ℕ) → k < 16 → TermSound (term_in l.z.term k))
-
-abbrev pub decreases-loop-j : goal.decreases-loop-j
-decreases-loop-j l = l.m - l.j
+invariant-loop-j g l = record {
+  holds : step_in l.s ≡ over_to (other_rule g.A.Amount.quantity) (step_in l.fn.s) l.j;
+  totals_are : l.x ≡ totals_to l.s.term l.fn.s.terms;
+}

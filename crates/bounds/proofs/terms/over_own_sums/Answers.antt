@@ -1,48 +1,33 @@
--- The loop's invariant: the bounds are those that the first j terms leave.
-use Prim.Native.Nat.{◌<◌}
-use mathlib.Core.Bool.{true, ◌&&◌}
-use mathlib.Core.Path.{◌≡◌, refl}
-use native.Mathlib.Omega.{arith}
-use lib.Dec.{eqb, ltb}
+-- A turn is one of the rule.
+use mathlib.Core.Path.{refl, ap, ◌∙◌}
+use Rattle.std.specs.Prelude.{Err}
+use Rattle.std.proofs.lemmas.Result.{err_from_is_err_and}
 use Rattle.theory.specs.Fold.{fold}
-use Rattle.frame.proofs.BoundsOver.{goes_on, term_turn, over_finish}
+use Rattle.frame.specs.State.{step_of}
+use Rattle.bounds.proofs.TurnLaws.{own_here, own_few, own_fits, own_turn, own_stop}
 use Rattle.bounds.proofs.terms.over_own_sums.Goals as goal
-use Rattle.bounds.proofs.terms.over_own_sums.Goals.{At-loop-j}
-
--- a turn is at a term of the array
-small : (l : At-loop-j) → ltb l.loop-j.j l.args.m && eqb l.loop-j.z.rule 0 ≡ true → l.loop-j.j < 16
-small l e = omega (arith, (goes_on l.loop-j.j l.args.m l.loop-j.z.rule e).0, l.requires.m_bound)
 
 pub loop-j-init : goal.loop-j-init
 unfolding fold
-loop-j-init c = (omega arith, refl)
+loop-j-init g c = refl
 
-pub bounds-z-j : goal.bounds-z-j
-bounds-z-j c = omega (arith, small (goal.at.bounds-z-j c).At-loop-j c.loop-j-test.true)
+pub own_sums-outcome-requires : goal.own_sums-outcome-requires
+own_sums-outcome-requires g c = record { few = own_few g.A.Amount.quantity c.args.s.now c.loop-j.j c.loop-j-test.true c.loop-j.s c.loop-j.invariant }
 
-pub bounds-sums-j : goal.bounds-sums-j
-bounds-sums-j c = omega (arith, small (goal.at.bounds-sums-j c).At-loop-j c.loop-j-test.true)
+pub tighten-requires-clause-in_range : goal.tighten-requires-clause-in_range
+tighten-requires-clause-in_range g c = own_here g.A.Amount.quantity c.args.s.now c.loop-j.j c.loop-j-test.true c.loop-j.s c.loop-j.invariant
 
-pub own_sums-o-requires : goal.own_sums-o-requires
-own_sums-o-requires c =
-    let l = (goal.at.own_sums-o-requires c).At-loop-j in
-    l.requires.by_index l.loop-j.j (small l c.loop-j-test.true)
+pub tighten-requires-clause-fits : goal.tighten-requires-clause-fits
+tighten-requires-clause-fits g c =
+    own_fits g.A.Amount.quantity c.args.s.now c.loop-j.j c.loop-j-test.true c.loop-j.s c.loop-j.invariant _ c.own_sums-outcome.ensures c.loop-j.s
 
-pub bounds-z-j-in-loop-j : goal.bounds-z-j-in-loop-j
-bounds-z-j-in-loop-j c = omega (arith, small (goal.at.bounds-z-j-in-loop-j c).At-loop-j c.loop-j-test.true)
-
-pub overflow_add-j : goal.overflow_add-j
-overflow_add-j c = omega (arith, small (goal.at.overflow_add-j c).At-loop-j c.loop-j-test.true)
-
-pub loop-j-smaller : goal.loop-j-smaller
-loop-j-smaller c =
-    omega (arith, (goes_on c.loop-j.j c.args.m c.loop-j.z.rule c.loop-j-test.true).0)
+pub returns-in_err-tighten : goal.returns-in_err-tighten
+returns-in_err-tighten g c =
+    let p = err_from_is_err_and c.from_residual.result c.from_residual.ensures.1 in
+    let r = c.tighten.new.self in
+    ap (step_of r) (p.1 ∙ ap Err p.2)
+    ∙ own_stop g.A.Amount.quantity c.args.s.now c.loop-j.j c.loop-j-test.true c.loop-j.s c.loop-j.invariant _ c.own_sums-outcome.ensures r _ c.in_err-tighten.ensures
 
 pub loop-j-preserved : goal.loop-j-preserved
-loop-j-preserved c =
-    let on = goes_on c.loop-j.j c.args.m c.loop-j.z.rule c.loop-j-test.true in
-    (omega (arith, on.0), term_turn _ _ c.loop-j.j c.loop-j.z c.own_sums-o.result c.loop-j.invariant.1 on.1 c.own_sums-o.ensures)
-
-pub returns : goal.returns
-returns c =
-    over_finish _ _ c.loop-j.j c.args.m c.loop-j.z c.loop-j.invariant.0 c.loop-j.invariant.1 c.loop-j-test.false
+loop-j-preserved g c =
+    own_turn g.A.Amount.quantity c.args.s.now c.loop-j.j c.loop-j-test.true c.loop-j.s c.loop-j.invariant _ c.own_sums-outcome.ensures c.tighten.new.self c.in_ok-tighten.ensures

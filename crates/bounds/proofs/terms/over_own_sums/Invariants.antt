@@ -1,12 +1,9 @@
--- The loop's invariant: the bounds are those that the first j terms leave.
-use Prim.Native.Nat.{◌≤◌, ◌-◌}
+-- The loop's invariant: the step in hand is what the first j terms leave.
 use mathlib.Core.Path.{◌≡◌}
-use Rattle.bounds.specs.AtTerm.{own_sums_at}
-use Rattle.frame.specs.Bounds.{bounds_over}
+use Rattle.rules.specs.Step.{over_to}
+use Rattle.frame.specs.State.{step_in}
+use Rattle.bounds.specs.AtTerm.{own_rule}
 use Rattle.bounds.proofs.terms.over_own_sums.Given as goal
 
 abbrev pub invariant-loop-j : goal.invariant-loop-j
-invariant-loop-j l = (l.j ≤ l.m) × (l.z ≡ bounds_over (own_sums_at l.q l.sums) l.initial.z l.j)
-
-abbrev pub decreases-loop-j : goal.decreases-loop-j
-decreases-loop-j l = l.m - l.j
+invariant-loop-j g l = step_in l.s ≡ over_to (own_rule g.A.Amount.quantity) (step_in l.fn.s) l.j

@@ -1,11 +1,11 @@
--- The loop's invariant is `BeforeRound`: each need is one of its laws at the values of the code.
+-- The loop's invariant is `BeforeRound`; each altering round lowers the leeway.
 use Rattle.frame.specs.State.{year_in}
 use Rattle.rules.proofs.Leeway.{leeway}
-use Rattle.filter.proofs.BeforeRound as laws
+use Rattle.filter.proofs.BeforeRound.{BeforeRound}
 use Rattle.filter.proofs.rounds.run.Given as goal
 
-abbrev pub invariant-loop-s : goal.invariant-loop-s
-invariant-loop-s l = laws.BeforeRound l.y l.o l.s l.n
+abbrev pub invariant-loop-rule : goal.invariant-loop-rule
+invariant-loop-rule l = BeforeRound l.fn.y l.kept l.s l.n
 
-abbrev pub decreases-loop-s : goal.decreases-loop-s
-decreases-loop-s l = leeway (year_in l.y.weight l.s)
+abbrev pub decreases-loop-rule : goal.decreases-loop-rule
+decreases-loop-rule l = leeway (year_in l.s)

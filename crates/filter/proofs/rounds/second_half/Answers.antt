@@ -1,129 +1,76 @@
--- Between any two calls the state holds the definition's step, so the next rules may run.
-use mathlib.Core.List.{List}
-use mathlib.Core.Path.{◌≡◌, refl, sym, ap, ◌∙◌}
+-- Each call goes on from the step that the one before left; a rule that finds no plan is the last. No rule alters a weight, so the
+-- courses stand in the order that they stood in.
 use Prim.Native.Nat.{ℕ}
-use lib.ListN.{length}
-use Rattle.year.specs.declared.Year.{Year}
-use Rattle.frame.specs.State.{year_in, step_in}
+use mathlib.Core.Path.{◌≡◌, sym, ap, ◌∙◌}
+use Rattle.std.specs.Prelude.{Err}
+use Rattle.std.proofs.lemmas.Result.{err_from_is_err_and}
+use Rattle.rules.specs.Lists.{rule10}
+use Rattle.rules.specs.Neighbours.{rule12}
+use Rattle.rules.specs.Packing.{rule11}
+use Rattle.rules.specs.Spares.{up}
+use Rattle.rules.specs.Step.{over_terms}
+use Rattle.rules.specs.Round.{in_row, passes_of, once}
+use Rattle.frame.specs.State.{year_in, step_in, step_of}
 use Rattle.frame.specs.declared.State.{State}
-use Rattle.rules.specs.Step.{Step}
-use Rattle.rules.specs.Round.{in_row, passes_of}
-use Rattle.rules.proofs.Narrows.{narrower_self}
-use Rattle.rules.specs.Spares.{down, up}
-use Rattle.orders.specs.Orders.{orders_of}
+use Rattle.frame.proofs.StateLaws.{row_stop, behind}
 use Rattle.orders.specs.declared.Orders.{Orders}
-use Rattle.orders.proofs.OrderLaws.{down_fits, up_fits, orders_weights}
+use Rattle.orders.proofs.OrderLaws.{orders_weights}
 use Rattle.filter.specs.Halves.{second_half}
-use Rattle.filter.proofs.StateAt.{StateAt, state_sound, state_row, state_year}
 use Rattle.filter.proofs.rounds.second_half.Goals as goal
-use Rattle.filter.proofs.rounds.second_half.Goals.{After-rule_10-r10, After-rule_12-r12, After-rules_6_to_9-r9, Start}
+use Rattle.filter.proofs.rounds.second_half.Goals.{Start, In_ok-rules_6_to_9, In_ok-rule_10, In_ok-rule_12}
 
--- ---- the step after each call, and that the state holds it
-abbrev w : Start → List ℕ
-w b = b.args.weight.now
+-- ---- z is the state that rules 6 to the one at place a leave
+abbrev After : ℕ → Start → State → Type 0
+After a b z = step_in z ≡ in_row (passes_of 6 a) (step_in b.args.s.now)
 
-abbrev y : Start → Year
-y b = year_in (w b) b.args.s
+after-9 : (c : In_ok-rules_6_to_9) → After 9 (goal.at.In_ok-rules_6_to_9 c).Start c.rules_6_to_9.new.s
+after-9 c = c.in_ok-rules_6_to_9.ensures
 
-abbrev step5 : Start → Step
-step5 b = step_in (w b) b.args.s
+after-10 : (c : In_ok-rule_10) → After 10 (goal.at.In_ok-rule_10 c).Start c.rule_10.new.s
+after-10 c = c.in_ok-rule_10.ensures ∙ ap (over_terms rule10) (after-9 (goal.at.In_ok-rule_10 c).In_ok-rules_6_to_9)
 
-at5 : (b : Start) → StateAt (y b) b.args.s (step5 b)
-at5 b = record { is = refl; narrower = narrower_self (y b) b.requires.sound }
+after-12 : (c : In_ok-rule_12) → After 11 (goal.at.In_ok-rule_12 c).Start c.rule_12.new.s
+after-12 c = c.in_ok-rule_12.ensures ∙ ap (over_terms rule12) (after-10 (goal.at.In_ok-rule_12 c).In_ok-rule_10)
 
-abbrev step9 : Start → Step
-step9 b = in_row (passes_of 6 9) (step5 b)
-
-abbrev start : After-rules_6_to_9-r9 → Start
-start c = (goal.at.After-rules_6_to_9-r9 c).Start
-
-at9 : (c : After-rules_6_to_9-r9) → let b = start c in StateAt (y b) c.rules_6_to_9-r9.result (step9 b)
-at9 c =
-    let b = start c in
-    state_row (y b) b.args.s (step5 b) (at5 b) 6 9 c.rules_6_to_9-r9.result c.rules_6_to_9-r9.ensures
-
-abbrev step10 : Start → Step
-step10 b = in_row (passes_of 6 10) (step5 b)
-
-at10 : (c : After-rule_10-r10) → let b = start (goal.at.After-rule_10-r10 c).After-rules_6_to_9-r9 in StateAt (y b) c.rule_10-r10.result (step10 b)
-at10 c =
-    let a = (goal.at.After-rule_10-r10 c).After-rules_6_to_9-r9 in
-    let b = start a in
-    state_row (y b) a.rules_6_to_9-r9.result (step9 b) (at9 a) 10 10 c.rule_10-r10.result c.rule_10-r10.ensures
-
-abbrev step12 : Start → Step
-step12 b = in_row (passes_of 6 11) (step5 b)
-
-at12 : (c : After-rule_12-r12) → let b = start (goal.at.After-rule_12-r12 c).After-rules_6_to_9-r9 in StateAt (y b) c.rule_12-r12.result (step12 b)
-at12 c =
-    let a = (goal.at.After-rule_12-r12 c).After-rule_10-r10 in
-    let b = start (goal.at.After-rule_12-r12 c).After-rules_6_to_9-r9 in
-    state_row (y b) a.rule_10-r10.result (step10 b) (at10 a) 11 11 c.rule_12-r12.result c.rule_12-r12.ensures
-
--- ---- the orders that are lent
-falling-is : (b : Start) → b.args.o.down ≡ down (y b)
-falling-is b = ap (λ (o : Orders). o.down) b.requires.o_value
-
-rising_is : (b : Start) → b.args.o.up ≡ up (y b)
-rising_is b = ap (λ (o : Orders). o.up) b.requires.o_value
-
-falling-long : (b : Start) → 64 ≡ length b.args.o.down
-falling-long b = sym (ap length (falling-is b) ∙ (down_fits (y b) b.requires.sound).long)
-
-rising-long : (b : Start) → 64 ≡ length b.args.o.up
-rising-long b = sym (ap length (rising_is b) ∙ (up_fits (y b) b.requires.sound).long)
-
--- no rule alters a weight, so the courses stand in the order that they stood in
-still-rising : (b : Start) (r : State) (x : Step) → StateAt (y b) r x → b.args.o.up ≡ up (year_in (w b) r)
-still-rising b r x at =
-    let n = at.narrower in
-    ap (λ (o : Orders). o.up)
-    (b.requires.o_value
-    ∙ sym (orders_weights (y b) x.year n.courses_same n.weight_same)
-    ∙ ap orders_of (sym (state_year (y b) r x at)))
+still-rising : (b : Start) (a : ℕ) (z : State) → After a b z → b.args.o.now.up ≡ up (year_in z)
+still-rising b a z e =
+    let n = behind 6 a b.args.s.now z e in
+    ap (λ (o : Orders). o.up) (b.requires.in_order ∙ sym (orders_weights (year_in b.args.s.now) (year_in z) n.courses_same n.weight_same))
 
 -- ---- the needs
-pub slice_bounds-rules_6_to_9-end : goal.slice_bounds-rules_6_to_9-end
-slice_bounds-rules_6_to_9-end c = falling-long (goal.at.slice_bounds-rules_6_to_9-end c).Start
+pub rules_6_to_9-requires : goal.rules_6_to_9-requires
+rules_6_to_9-requires c = record { in_order = (ap (λ (o : Orders). o.down) c.requires.in_order, ap (λ (o : Orders). o.up) c.requires.in_order) }
 
-pub slice_bounds-rules_6_to_9-end-2 : goal.slice_bounds-rules_6_to_9-end-2
-slice_bounds-rules_6_to_9-end-2 c = rising-long (goal.at.slice_bounds-rules_6_to_9-end-2 c).Start
+pub returns-in_err-rules_6_to_9 : goal.returns-in_err-rules_6_to_9
+unfolding second_half
+returns-in_err-rules_6_to_9 c =
+    let p = err_from_is_err_and c.from_residual.result c.from_residual.ensures.1 in
+    ap (step_of c.rules_6_to_9.new.s) (p.1 ∙ ap Err p.2) ∙ row_stop 10 12 c.rules_6_to_9.new.s _ _ c.in_err-rules_6_to_9.ensures
 
-pub rules_6_to_9-r9-requires : goal.rules_6_to_9-r9-requires
-rules_6_to_9-r9-requires c =
-    let b = (goal.at.rules_6_to_9-r9-requires c).Start in
-    record { sound = b.requires.sound; falling_value = (falling-is b, rising_is b) }
+pub returns-in_err-rule_10 : goal.returns-in_err-rule_10
+unfolding second_half
+returns-in_err-rule_10 c =
+    let p = err_from_is_err_and c.from_residual-in_err-rule_10.result c.from_residual-in_err-rule_10.ensures.1 in
+    let e = c.in_err-rule_10.ensures ∙ ap (over_terms rule10) (after-9 (goal.at.returns-in_err-rule_10 c).In_ok-rules_6_to_9) in
+    ap (step_of c.rule_10.new.s) (p.1 ∙ ap Err p.2) ∙ row_stop 11 12 c.rule_10.new.s _ _ e
 
-pub rule_10-r10-requires : goal.rule_10-r10-requires
-rule_10-r10-requires c =
-    let b = start c in
-    let x = step9 b in
-    let r = c.rules_6_to_9-r9.result in
-    state_sound (y b) r x (at9 c)
+pub rule_12-requires : goal.rule_12-requires
+rule_12-requires c =
+    let a = (goal.at.rule_12-requires c).In_ok-rule_10 in
+    record { from_lightest = still-rising (goal.at.rule_12-requires c).Start 10 a.rule_10.new.s (after-10 a) }
 
-pub slice_bounds-rule_12-end : goal.slice_bounds-rule_12-end
-slice_bounds-rule_12-end c = rising-long (start (goal.at.slice_bounds-rule_12-end c).After-rules_6_to_9-r9)
-
-pub rule_12-r12-requires : goal.rule_12-r12-requires
-rule_12-r12-requires c =
-    let d = (goal.at.rule_12-r12-requires c).After-rule_10-r10 in
-    let b = start (goal.at.rule_12-r12-requires c).After-rules_6_to_9-r9 in
-    let r = d.rule_10-r10.result in
-    record { sound = state_sound (y b) r (step10 b) (at10 d); rising_value = still-rising b r (step10 b) (at10 d) }
-
-pub slice_bounds-rule_11-end : goal.slice_bounds-rule_11-end
-slice_bounds-rule_11-end c = rising-long (start (goal.at.slice_bounds-rule_11-end c).After-rules_6_to_9-r9)
+pub returns-in_err-rule_12 : goal.returns-in_err-rule_12
+unfolding second_half
+returns-in_err-rule_12 c =
+    let p = err_from_is_err_and c.from_residual-in_err-rule_12.result c.from_residual-in_err-rule_12.ensures.1 in
+    let e = c.in_err-rule_12.ensures ∙ ap (over_terms rule12) (after-10 (goal.at.returns-in_err-rule_12 c).In_ok-rule_10) in
+    ap (step_of c.rule_12.new.s) (p.1 ∙ ap Err p.2) ∙ row_stop 12 12 c.rule_12.new.s _ _ e
 
 pub rule_11-requires : goal.rule_11-requires
 rule_11-requires c =
-    let d = (goal.at.rule_11-requires c).After-rule_12-r12 in
-    let b = start (goal.at.rule_11-requires c).After-rules_6_to_9-r9 in
-    let r = d.rule_12-r12.result in
-    record { sound = state_sound (y b) r (step12 b) (at12 d); rising_value = still-rising b r (step12 b) (at12 d) }
+    let a = (goal.at.rule_11-requires c).In_ok-rule_12 in
+    record { from_lightest = still-rising (goal.at.rule_11-requires c).Start 11 a.rule_12.new.s (after-12 a) }
 
 pub returns : goal.returns
 unfolding second_half
-returns c =
-    let a = (goal.at.returns c).After-rule_12-r12 in
-    let b = start (goal.at.returns c).After-rules_6_to_9-r9 in
-    (state_row (y b) a.rule_12-r12.result (step12 b) (at12 a) 12 12 c.rule_11.result c.rule_11.ensures).is
+returns c = c.rule_11.ensures ∙ ap (once rule11) (after-12 (goal.at.returns c).In_ok-rule_12)

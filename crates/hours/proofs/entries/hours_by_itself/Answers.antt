@@ -1,5 +1,7 @@
 -- `hours_by_itself`: the edition's byte chooses as the definition does.
+use native.Mathlib.Omega.{arith}
 use borrow.Author.Tests.{ne_eqb}
+use Rattle.records.specs.Bytes.{byte_at}
 use Rattle.hours.specs.Entries.{hours_by_itself}
 use Rattle.hours.proofs.entries.hours_by_itself.Goals as goal
 
@@ -13,4 +15,6 @@ returns-in-2 c = rw c.in-2.is c.weighed_by-in-2.ensures
 
 pub returns-in_default : goal.returns-in_default
 unfolding hours_by_itself
-returns-in_default c = let rest = c.in_default.in_default-own.rest in simp (ne_eqb _ 1 rest.0.1, ne_eqb _ 2 rest.1)
+returns-in_default c =
+    let b = byte_at c.args.s.now c.args.at 2 in
+    simp (ne_eqb b 1 (λ e. omega arith), ne_eqb b 2 (λ e. omega arith))

@@ -1,12 +1,8 @@
 -- `read_terms`: the year held is what the definition has after the same records; a refusal stays to the end of the list.
-use Prim.Native.Nat.{◌/◌, ◌-◌, ◌≤◌}
 use mathlib.Core.Path.{◌≡◌}
 use Rattle.records.specs.Reading.{blank_year, done, gathered}
 use Rattle.hours.specs.Joining.{term_entry}
 use Rattle.hours.proofs.lists.read_terms.Given as goal
 
 abbrev pub invariant-loop-k : goal.invariant-loop-k
-invariant-loop-k l = (l.k ≤ l.n / 16) × (gathered (term_entry l.s) blank_year l.k ≡ done l.y)
-
-abbrev pub decreases-loop-k : goal.decreases-loop-k
-decreases-loop-k l = l.n / 16 - l.k
+invariant-loop-k l = gathered (term_entry l.s) blank_year l.k-counter ≡ done l.y

@@ -1,11 +1,12 @@
--- The loop's invariant: the state after the first i courses, its sums kept with its lists.
-use Prim.Native.Nat.{◌≤◌, ◌-◌}
+-- The loop's invariant: the first i courses have had their verdicts, and the bounds are those at the start.
 use mathlib.Core.Path.{◌≡◌}
-use Rattle.lists.proofs.CourseLaws.{state_to}
+use Rattle.rules.specs.Step.{over_to}
+use Rattle.frame.specs.State.{step_in}
+use Rattle.lists.specs.TermVerdict.{course_judged}
 use Rattle.lists.proofs.courses.each_course.Given as goal
 
 abbrev pub invariant-loop-i : goal.invariant-loop-i
-invariant-loop-i l = (l.i ≤ l.s.courses) × (l.z ≡ state_to l.whole l.weight l.s l.j l.i)
-
-abbrev pub decreases-loop-i : goal.decreases-loop-i
-decreases-loop-i l = l.s.courses - l.i
+invariant-loop-i l = record {
+  step : step_in l.s ≡ over_to (course_judged l.whole l.j) (step_in l.fn.s) l.i;
+  term : l.s.term ≡ l.fn.s.term;
+}

@@ -1,21 +1,17 @@
--- The three tests are the definition's, in its order.
-use mathlib.Core.Path.{sym, ◌∙◌}
+-- The tests are the definition's, in its order, of an open course.
+use mathlib.Core.Path.{sym}
 use borrow.Author.Tests.{lt-ltb, le-ltb}
 use Rattle.rules.specs.Lists.{verdict3}
 use Rattle.lists.proofs.verdicts.verdict_3.Goals as goal
 
-pub returns-then-not-is_open : goal.returns-then-not-is_open
+pub returns-then-t-u : goal.returns-then-t-u
 unfolding verdict3
-returns-then-not-is_open c = simp (sym c.is_open.ensures ∙ c.if-not-is_open.true)
+returns-then-t-u c = λ j e. simp (e, lt-ltb _ _ c.if-t-u.true)
 
-pub returns-then-t-p : goal.returns-then-t-p
+pub returns-then-saturating_sub-t : goal.returns-then-saturating_sub-t
 unfolding verdict3
-returns-then-t-p c = simp (sym c.is_open.ensures ∙ c.if-not-is_open.false, lt-ltb _ _ c.if-t-p.true)
-
-pub returns-then-less-t : goal.returns-then-less-t
-unfolding verdict3
-returns-then-less-t c = simp (sym c.is_open.ensures ∙ c.if-not-is_open.false, le-ltb _ _ c.if-t-p.false, sym c.less.ensures, lt-ltb _ _ c.if-less-t.true)
+returns-then-saturating_sub-t c = λ j e. simp (e, le-ltb _ _ c.if-t-u.false, sym c.saturating_sub.ensures, lt-ltb _ _ c.if-saturating_sub-t.true)
 
 pub returns : goal.returns
 unfolding verdict3
-returns c = simp (sym c.is_open.ensures ∙ c.if-not-is_open.false, le-ltb _ _ c.if-t-p.false, sym c.less.ensures, le-ltb _ _ c.if-less-t.false)
+returns c = λ j e. simp (e, le-ltb _ _ c.if-t-u.false, sym c.saturating_sub.ensures, le-ltb _ _ c.if-saturating_sub-t.false)

@@ -1,98 +1,69 @@
--- The loop's invariant: the state after the first i courses.
+-- The next course that has a verdict is given it, and where there is none the rest are passed.
 use Prim.Native.Nat.{◌≤◌, ◌<◌}
 use mathlib.Core.Bool.{or-false}
 use mathlib.Core.Path.{◌≡◌, sym, ap, ◌∙◌}
 use native.Mathlib.Omega.{arith}
-use borrow.Author.Rules.{rules}
 use Rattle.theory.specs.Fold.{fold}
 use Rattle.rules.specs.Step.{step, live, joined, over_to}
 use Rattle.rules.specs.Neighbours.{rule12_course}
-use Rattle.frame.specs.State.{held, year_in, step_in}
-use Rattle.neighbours.proofs.CourseLaws.{sound_is, sizes_are, rule_is, order_is, state_there, open_there, given}
+use Rattle.frame.specs.State.{year_in, step_in}
+use Rattle.neighbours.proofs.CourseLaws.{sizes_are, order_is, all_there, given}
 use Rattle.neighbours.proofs.courses.each_course.Goals as goal
-use Rattle.neighbours.proofs.courses.each_course.Goals.{After-next_verdict-f, At-loop-i, Start}
+use Rattle.neighbours.proofs.courses.each_course.Goals.{At-loop-start, In-Some}
 
-abbrev start : At-loop-i → Start
-start l = (goal.at.At-loop-i l).Start
+-- the state at the turn has the same sizes
+sizes : (c : At-loop-start) → let s = c.args.s.now in (c.loop-start.s.courses ≡ s.courses) × (c.loop-start.s.terms ≡ s.terms)
+sizes c =
+    let a = c.args in
+    sizes_are a.s.now a.j c.requires.is_term c.loop-start.start c.loop-start.invariant.0 c.loop-start.s c.loop-start.invariant.1
 
-pub loop-i-init : goal.loop-i-init
+-- where the next course with a verdict stands
+found : (c : In-Some) → (c.loop-start.start ≤ c.in-Some.f.course) × (c.in-Some.f.course < c.args.s.now.courses)
+found c =
+    let n = sizes (goal.at.In-Some c).At-loop-start in
+    let e = c.in-Some.ensures in
+    (e.from, omega (arith, e.within, n))
+
+pub loop-start-init : goal.loop-start-init
 unfolding fold
-loop-i-init c =
-    let m = sym (or-false c.args.s.altered) in
-    let r = c.requires.j_lt_terms.1 in
-    (search rules, λ n. held (step (year_in c.args.weight.now c.args.s) (m n) (r n)))
+loop-start-init c =
+    let s = c.args.s.now in
+    (omega arith, λ n. step (year_in s) (sym (or-false s.altered) n) 0)
 
-pub next_verdict-f-requires : goal.next_verdict-f-requires
-next_verdict-f-requires c =
-    let l = (goal.at.next_verdict-f-requires c).At-loop-i in
-    let b = start l in
-    let a = b.args in
-    let w = a.weight.now in
-    let j = b.requires.j_lt_terms.0 in
-    let v = l.loop-i.invariant in
-    let n = sizes_are w a.s a.j b.requires.sound j l.loop-i.i v.0 l.loop-i.z v.1 in record { sound = sound_is w a.s a.j b.requires.sound j l.loop-i.i v.0 l.loop-i.z v.1; rising_value = b.requires.rising_value ∙ sym (order_is w a.s a.j b.requires.sound j l.loop-i.i v.0 l.loop-i.z v.1); j_lt_terms = (omega (arith, n, j), omega (arith, n, v.0)) }
+pub next_verdict-requires-clause-from_lightest : goal.next_verdict-requires-clause-from_lightest
+next_verdict-requires-clause-from_lightest c =
+    let a = c.args in
+    c.requires.from_lightest ∙ sym (order_is a.s.now a.j c.requires.is_term c.loop-start.start c.loop-start.invariant.0 c.loop-start.s c.loop-start.invariant.1)
 
--- where the first verdict is, and that it is none past the last course
-from : (c : After-next_verdict-f) → let l = (goal.at.After-next_verdict-f c).At-loop-i in
-    (l.loop-i.i ≤ c.next_verdict-f.result.course) × (c.next_verdict-f.result.course ≤ (start l).args.s.courses)
-from c =
-    let l = (goal.at.After-next_verdict-f c).At-loop-i in
-    let b = start l in
-    let v = l.loop-i.invariant in
-    let n = sizes_are b.args.weight.now b.args.s b.args.j b.requires.sound b.requires.j_lt_terms.0 l.loop-i.i v.0 l.loop-i.z v.1 in
-    let f = c.next_verdict-f.ensures in
-    (f.from, omega (arith, f.upto, n))
+pub next_verdict-requires-clause-is_term : goal.next_verdict-requires-clause-is_term
+next_verdict-requires-clause-is_term c =
+    let n = sizes (goal.at.next_verdict-requires-clause-is_term c).At-loop-start in
+    omega arith
 
-pub judged-z-requires : goal.judged-z-requires
-judged-z-requires c =
-    let l = (goal.at.judged-z-requires c).At-loop-i in
-    let b = start l in
-    let a = b.args in
-    let w = a.weight.now in
-    let j = b.requires.j_lt_terms.0 in
-    let v = l.loop-i.invariant in
-    let n = sizes_are w a.s a.j b.requires.sound j l.loop-i.i v.0 l.loop-i.z v.1 in
-    let some : c.next_verdict-f.result.course < l.loop-i.z.courses = omega (arith, n, c.if-i-s.true) in record { sound = sound_is w a.s a.j b.requires.sound j l.loop-i.i v.0 l.loop-i.z v.1; rule_value = (rule_is w a.s a.j b.requires.sound j l.loop-i.i v.0 l.loop-i.z v.1, some, omega (arith, n, j)); j_value = open_there w a.s a.j b.requires.sound j l.loop-i.i v.0 l.loop-i.z v.1 c.next_verdict-f.result c.next_verdict-f.ensures some }
+pub returns-in_default : goal.returns-in_default
+returns-in_default c =
+    let a = c.args in
+    all_there a.s.now a.j c.requires.is_term c.loop-start.start c.loop-start.invariant.0 c.loop-start.s c.loop-start.invariant.1 c.in_default.ensures
 
-pub loop-i-smaller-then-i-s : goal.loop-i-smaller-then-i-s
-loop-i-smaller-then-i-s c =
-    let f = (goal.at.loop-i-smaller-then-i-s c).After-next_verdict-f in
-    omega (arith, from f, c.if-i-s.true)
+pub judge-requires-clause-in_range : goal.judge-requires-clause-in_range
+judge-requires-clause-in_range c =
+    let n = sizes (goal.at.judge-requires-clause-in_range c).At-loop-start in
+    (c.in-Some.ensures.within, omega arith)
 
-pub loop-i-preserved-then-i-s : goal.loop-i-preserved-then-i-s
-loop-i-preserved-then-i-s c =
-    let l = (goal.at.loop-i-preserved-then-i-s c).At-loop-i in
-    let b = start l in
-    let a = b.args in
-    let w = a.weight.now in
-    let j = b.requires.j_lt_terms.0 in
-    let v = l.loop-i.invariant in
-    let n = sizes_are w a.s a.j b.requires.sound j l.loop-i.i v.0 l.loop-i.z v.1 in
-    let some : c.next_verdict-f.result.course < l.loop-i.z.courses = omega (arith, n, c.if-i-s.true) in (
-      omega (arith, c.if-i-s.true),
-      given w a.s a.j b.requires.sound j l.loop-i.i v.0 l.loop-i.z v.1 c.next_verdict-f.result c.next_verdict-f.ensures some c.judged-z.result c.judged-z.ensures,
-    )
+pub loop-start-smaller : goal.loop-start-smaller
+loop-start-smaller c =
+    let f = found (goal.at.loop-start-smaller c).In-Some in
+    omega arith
 
-pub loop-i-smaller : goal.loop-i-smaller
-loop-i-smaller c =
-    let f = (goal.at.loop-i-smaller c).After-next_verdict-f in
-    omega (arith, from f, c.if-i-s.false, f.loop-i-test.true)
-
-pub loop-i-preserved : goal.loop-i-preserved
-loop-i-preserved c =
-    let f = (goal.at.loop-i-preserved c).After-next_verdict-f in
-    let l = (goal.at.loop-i-preserved c).At-loop-i in
-    let b = start l in
-    let a = b.args in
-    let v = l.loop-i.invariant in (
-      (from f).1,
-      state_there a.weight.now a.s a.j b.requires.sound b.requires.j_lt_terms.0 l.loop-i.i v.0 l.loop-i.z v.1 f.next_verdict-f.result f.next_verdict-f.ensures,
-    )
+pub loop-start-preserved : goal.loop-start-preserved
+loop-start-preserved c =
+    let f = found (goal.at.loop-start-preserved c).In-Some in
+    let a = c.args in
+    (omega arith, given a.s.now a.j c.requires.is_term c.loop-start.start c.loop-start.invariant.0 c.loop-start.s c.loop-start.invariant.1 c.in-Some.f c.in-Some.ensures c.judge.new.self c.judge.ensures)
 
 pub returns : goal.returns
 returns c =
-    let l = (goal.at.returns c).At-loop-i in
-    let a = (start l).args in
-    let v = l.loop-i.invariant in
-    let is : l.loop-i.i ≡ a.s.courses = omega (arith, v.0, c.loop-i-test.false) in
-    v.1 ∙ ap (λ n. held (joined (step_in a.weight.now a.s) (over_to (rule12_course a.j) (live (year_in a.weight.now a.s)) n))) is
+    let n = sizes (goal.at.returns c).At-loop-start in
+    let a = c.args in
+    let is : c.loop-start.start ≡ a.s.now.courses = omega arith in
+    c.loop-start.invariant.1 ∙ ap (λ k. joined (step_in a.s.now) (over_to (rule12_course a.j) (live (year_in a.s.now)) k)) is

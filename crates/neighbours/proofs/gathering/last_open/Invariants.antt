@@ -6,7 +6,4 @@ use Rattle.neighbours.specs.Opened.{at, open_in}
 use Rattle.neighbours.proofs.gathering.last_open.Given as goal
 
 abbrev pub invariant-loop-k : goal.invariant-loop-k
-invariant-loop-k l = (l.k ≤ l.n) × ((t : ℕ) → l.k ≤ t → t < l.n → open_in l.weight l.list l.j (at l.order t) ≡ false)
-
-abbrev pub decreases-loop-k : goal.decreases-loop-k
-decreases-loop-k l = l.k
+invariant-loop-k l = (t : ℕ) → l.k ≤ t → t < l.s.courses → open_in l.s.weight.now l.s.list l.j (at l.order t) ≡ false

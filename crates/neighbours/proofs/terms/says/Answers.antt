@@ -1,90 +1,96 @@
 -- Three early ends; else what is said of the open courses is said of the term.
-use Prim.Native.Nat.{◌-◌, ◌≤◌}
+use Prim.Native.Nat.{◌-◌, ◌≤◌, ◌<◌}
 use mathlib.Core.Bool.{true≢false}
-use mathlib.Core.Path.{refl, sym, ◌∙◌, subst}
+use mathlib.Core.Path.{◌≡◌, refl, sym, ◌∙◌}
 use native.Mathlib.Omega.{arith}
-use lib.Dec.{leb}
-use borrow.Author.Tests.{lt-ltb, leb-true}
-use Rattle.theory.proofs.TestLaws.{and_true}
+use borrow.Author.Tests.{lt-ltb}
+use Rattle.year.specs.Year.{term_at}
+use lib.ListN.{get_or}
+use Rattle.year.specs.Sums.{no_sums, fixed_credits}
+use Rattle.year.specs.declared.Year.{Year}
+use Rattle.frame.specs.State.{year_in}
 use Rattle.neighbours.specs.Opened.{Ordered}
-use Rattle.neighbours.proofs.ColumnLaws.{ordered}
+use Rattle.neighbours.specs.Verdicts.{Columns}
 use Rattle.neighbours.proofs.TermLaws.{last_heaviest, right_of, light_says}
+use Rattle.neighbours.proofs.YearLaws.{rising_is, columns_of, in_order, range_of, fixed_of, none_of}
 use Rattle.neighbours.proofs.terms.says.Goals as goal
-use Rattle.neighbours.proofs.terms.says.Goals.{After-range_of-range, Else-t-u, Start}
+use Rattle.neighbours.proofs.terms.says.Goals.{Else-s-j, Start}
 
-in_order : (s : Start) → let a = s.args in Ordered a.weight.now a.list.now a.rising.now a.n
-in_order s =
-    let a = s.args in
-    subst (λ o. Ordered a.weight.now a.list.now o a.n) (sym s.requires.rising_value.0) (ordered a.weight.now a.list.now a.n s.requires.columns)
+-- ---- the year at the start
+
+abbrev y : Start → Year
+y b = year_in b.args.s.now
+
+columns : (b : Start) → Columns (y b).weight (y b).list (y b).courses
+columns b = columns_of (y b) b.args.s.now.sound
+
+ordered : (b : Start) → Ordered (y b).weight (y b).list b.args.rising.now (y b).courses
+ordered b = in_order (y b) b.args.s.now.sound b.args.rising.now b.requires.from_lightest
+
+fixed : (b : Start) → (get_or b.args.s.now.sums b.args.j no_sums).fixed.0 ≡ fixed_credits (y b) b.args.j
+fixed b = fixed_of (y b) b.args.s.now.sound b.args.j b.requires.is_term
 
 -- the term takes what is fixed
-fits : (c : Else-t-u) → let a = c.args in a.u.fixed.0 ≤ a.t.high.0
-fits c = omega (arith, c.if-t-u.false)
+fits : (c : Else-s-j) → let b = (goal.at.Else-s-j c).Start in fixed_credits (y b) b.args.j ≤ (term_at (y b) b.args.j).high.0
+fits c = omega (arith, c.if-s-j.false, fixed (goal.at.Else-s-j c).Start)
 
--- its range is one, and within 64000
-range : (c : After-range_of-range) → let r = c.range_of-range.result in (r.least.0 ≤ r.most.0) × (r.most.0 ≤ 64000)
-range c =
-    (omega (arith, c.range_of-range.ensures, c.requires.low_le_high), omega (arith, c.range_of-range.ensures, c.requires.low_le_high))
-
-pub returns-then-t-u : goal.returns-then-t-u
-returns-then-t-u c =
-    let a = c.args in
-    rw (lt-ltb a.t.high.0 a.u.fixed.0 c.if-t-u.true)
+pub returns-then-s-j : goal.returns-then-s-j
+returns-then-s-j c =
+    let b = (goal.at.returns-then-s-j c).Start in
+    let over : (term_at (y b) b.args.j).high.0 < fixed_credits (y b) b.args.j = omega (arith, c.if-s-j.true, fixed b) in
+    (rw (lt-ltb (term_at (y b) b.args.j).high.0 (fixed_credits (y b) b.args.j) over) refl, refl)
 
 pub returns-then-u-eq0 : goal.returns-then-u-eq0
 returns-then-u-eq0 c =
-    let o = (goal.at.returns-then-u-eq0 c).Else-t-u in
-    let a = c.args in
-    let p = a.u.fixed.0 in
-    light_says a.weight.now a.list.now a.n c.requires.columns a.j a.t p (a.t.low.0 - p) (a.t.high.0 - p) (fits o) refl refl 0
-    (λ i l e. absurd (true≢false (sym e ∙ c.requires.i_value c.if-u-eq0.true i l)))
-    (omega (arith, c.requires.low_le_high))
+    let o = (goal.at.returns-then-u-eq0 c).Else-s-j in
+    let b = (goal.at.returns-then-u-eq0 c).Start in
+    let s = b.args.s.now in
+    let j = b.args.j in
+    let p = fixed_credits (y b) j in
+    let t = term_at (y b) j in
+    let r = range_of (y b) s.sound j b.requires.is_term in
+    light_says (y b) (columns b) j t p (t.low.0 - p) (t.high.0 - p) (fits o) refl refl 0
+    (λ i l e. absurd (true≢false (sym e ∙ none_of (y b) s.sound j b.requires.is_term c.if-u-eq0.true i l)))
+    r.0
     (omega arith)
     (omega arith)
 
-pub last_open-last-requires : goal.last_open-last-requires
-last_open-last-requires c =
-    let s = (goal.at.last_open-last-requires c).Start in
-    record { ordered = in_order s; j_bound = s.requires.rising_value.1 }
+pub last_open-last-requires-clause-ordered : goal.last_open-last-requires-clause-ordered
+last_open-last-requires-clause-ordered c = ordered (goal.at.last_open-last-requires-clause-ordered c).Start
 
-pub heaviest-heaviest-requires : goal.heaviest-heaviest-requires
-heaviest-heaviest-requires c =
-    let s = (goal.at.heaviest-heaviest-requires c).Start in
-    let o = in_order s in
-    let l = c.last_open-last.ensures.0 in
-    record { n_in_bounds = (omega (arith, o.long, l), omega (arith, o.few, l)); by_index = λ r h. o.weighed r (omega (arith, l)) }
+pub heaviest-heaviest-requires-clause-n_in_bounds : goal.heaviest-heaviest-requires-clause-n_in_bounds
+heaviest-heaviest-requires-clause-n_in_bounds c =
+    let o = ordered (goal.at.heaviest-heaviest-requires-clause-n_in_bounds c).Start in
+    (omega (arith, o.long), omega (arith, o.few))
 
-pub width-requires : goal.width-requires
-width-requires c = range (goal.at.width-requires c).After-range_of-range
+pub heaviest-heaviest-requires-clause-by_index : goal.heaviest-heaviest-requires-clause-by_index
+heaviest-heaviest-requires-clause-by_index c =
+    λ r h. (ordered (goal.at.heaviest-heaviest-requires-clause-by_index c).Start).weighed r (omega arith)
 
-pub returns-then-heaviest-range : goal.returns-then-heaviest-range
-returns-then-heaviest-range c =
-    let r = (goal.at.returns-then-heaviest-range c).After-range_of-range in
-    let o = (goal.at.returns-then-heaviest-range c).Else-t-u in
-    let a = c.args in
-    let b = r.range_of-range.result in
-    let top = c.heaviest-heaviest.result.0 in
-    let light = and_true (leb top b.most.0) (leb top c.width.result.0) c.if-heaviest-range.true in
-    light_says a.weight.now a.list.now a.n c.requires.columns a.j a.t a.u.fixed.0 b.least.0 b.most.0 (fits o) r.range_of-range.ensures.0 r.range_of-range.ensures.1 top
-    (λ i m e. omega (
+pub returns-then-heaviest-width : goal.returns-then-heaviest-width
+returns-then-heaviest-width c =
+    let o = (goal.at.returns-then-heaviest-width c).Else-s-j in
+    let b = (goal.at.returns-then-heaviest-width c).Start in
+    let s = b.args.s.now in
+    let j = b.args.j in
+    let r = c.of-range.result in
+    let e = c.of-range.ensures in
+    light_says (y b) (columns b) j (term_at (y b) j) (fixed_credits (y b) j) r.least.0 r.most.0 (fits o) e.0 e.1 c.heaviest-heaviest.result.0
+    (λ i m h. omega (
       arith,
       c.heaviest-heaviest.ensures,
-      last_heaviest a.weight.now a.list.now a.n c.requires.columns a.j a.rising.now c.requires.rising_value.0 c.last_open-last.result c.last_open-last.ensures.0 c.last_open-last.ensures.1 i m e,
+      last_heaviest (y b) (columns b) j b.args.rising.now (b.requires.from_lightest ∙ rising_is (y b)) c.last_open-last.result c.last_open-last.ensures.within c.last_open-last.ensures.none_behind i m h,
     ))
-    (range r).0
-    (leb-true top b.most.0 light.0)
-    (omega (arith, c.width.ensures, leb-true top c.width.result.0 light.1))
-
-pub of_open-requires : goal.of_open-requires
-of_open-requires c =
-    let r = (goal.at.of_open-requires c).After-range_of-range in
-    record { columns = c.requires.columns; rising_value = c.requires.rising_value; least_le_most = range r }
+    r.ordered
+    c.if-heaviest-range.true
+    (omega (arith, c.width.ensures, c.if-heaviest-width.true))
 
 pub returns : goal.returns
 returns c =
-    let o = (goal.at.returns c).Else-t-u in
-    let a = c.args in
-    let b = c.range_of-range.result in
-    right_of a.weight.now a.list.now a.n c.requires.columns a.j a.t a.u.fixed.0 b.least.0 b.most.0 (fits o) c.range_of-range.ensures.0 c.range_of-range.ensures.1
-    c.of_open.result
-    c.of_open.ensures
+    let o = (goal.at.returns c).Else-s-j in
+    let b = (goal.at.returns c).Start in
+    let s = b.args.s.now in
+    let j = b.args.j in
+    let r = c.of-range.result in
+    let e = c.of-range.ensures in
+    right_of (y b) (columns b) j (term_at (y b) j) (fixed_credits (y b) j) r.least.0 r.most.0 (fits o) e.0 e.1 c.of_open.result c.of_open.ensures

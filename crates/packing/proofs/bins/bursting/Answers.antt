@@ -1,7 +1,6 @@
 -- The loop's invariant: the flag says whether one of the first k terms is over its high credits.
 use mathlib.Core.Bool.{◌||◌}
-use mathlib.Core.Path.{◌≡◌, sym, ap, ◌∙◌}
-use native.Mathlib.Omega.{arith}
+use mathlib.Core.Path.{sym, ap, ◌∙◌}
 use borrow.Author.Rules.{rules}
 use Rattle.theory.specs.Tests.{any}
 use Rattle.theory.proofs.TestLaws.{any_more}
@@ -14,12 +13,6 @@ loop-k-init c = search rules
 
 pub loop-k-preserved : goal.loop-k-preserved
 loop-k-preserved c =
-    let a = c.args in
+    let s = c.args.s.now in
     let k = c.loop-k.k in
-    (search rules, ap (λ f. f || burst_in a.term a.s k) c.loop-k.invariant.1 ∙ sym (any_more k (burst_in a.term a.s)))
-
-pub returns : goal.returns
-returns c =
-    let a = c.args in
-    let is : c.loop-k.k ≡ a.m = omega arith in
-    c.loop-k.invariant.1 ∙ ap (λ n. any n (burst_in a.term a.s)) is
+    ap (λ f. f || burst_in s.term s.sums k) c.loop-k.invariant ∙ sym (any_more k (burst_in s.term s.sums))

@@ -1,4 +1,4 @@
--- The loop's invariant: the sum over the first i sizes, of which each is at most c.
+-- The loop's invariant: the sum over the sizes gone by.
 use mathlib.Core.Path.{◌≡◌, ap, ◌∙◌}
 use native.Mathlib.Omega.{arith}
 use lib.ListN.{length}
@@ -8,16 +8,17 @@ use Rattle.theory.proofs.SumLaws.{sum_more}
 use Rattle.packing.specs.Sizes.{capped_at, cap_sum}
 use Rattle.packing.proofs.sizes.cap_sum.Goals as goal
 
-pub loop-i-init : goal.loop-i-init
+pub loop-size-init : goal.loop-size-init
 unfolding total
-loop-i-init c = search rules
+loop-size-init c = search rules
 
-pub loop-i-preserved : goal.loop-i-preserved
-loop-i-preserved c =
-    (search rules, omega (arith, sum_more c.loop-i.i (capped_at c.args.x.now c.args.c.0), c.capped-size.ensures), omega (arith, c.capped-size.ensures))
+pub loop-size-preserved : goal.loop-size-preserved
+loop-size-preserved c =
+    let more = sum_more c.loop-size.size-index (capped_at c.args.x.now c.args.c.0) in
+    record { is = omega (arith, c.capped.ensures); small = omega (arith, c.capped.ensures) }
 
 pub returns : goal.returns
 unfolding cap_sum
 returns c =
-    let is : c.loop-i.i ≡ length c.args.x.now = omega arith in
-    (c.loop-i.invariant.1 ∙ ap (λ n. total n (capped_at c.args.x.now c.args.c.0)) is, omega arith)
+    let is : c.loop-size.size-index ≡ length c.args.x.now = omega arith in
+    (c.loop-size.invariant.is ∙ ap (λ n. total n (capped_at c.args.x.now c.args.c.0)) is, omega (arith, c.loop-size.invariant.small))

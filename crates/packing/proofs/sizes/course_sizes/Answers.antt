@@ -14,15 +14,15 @@ loop-i-init c = search rules
 
 pub loop-i-preserved : goal.loop-i-preserved
 loop-i-preserved c =
-    let a = c.args in
+    let s = c.args.s.now in
     let i = c.loop-i.i in
-    let f = size_in a.weight.now a.list.now in
-    let size = c.course_size-size.ensures ∙ ap size_of c.course_in.ensures ∙ first_is a.n i f c.loop-i-test.true in
-    (search rules, filling_more 0 64 (first_of a.n f) c.loop-i.r i c.loop-i.invariant.1 _ size)
+    let f = size_in s.weight.now s.list in
+    let size = c.course_size.ensures ∙ ap size_of c.course_in.ensures ∙ first_is s.courses i f c.loop-i-test.true in
+    filling_more 0 64 (first_of s.courses f) c.loop-i.r i c.loop-i.invariant _ size
 
 pub returns : goal.returns
 returns c =
-    let a = c.args in
-    let is : c.loop-i.i ≡ a.n = omega arith in
-    let f = size_in a.weight.now a.list.now in
-    c.loop-i.invariant.1 ∙ ap (fill (first_of a.n f) (replicate 64 0)) is ∙ fill_first 64 a.n f c.requires.0
+    let s = c.args.s.now in
+    let is : c.loop-i.i ≡ s.courses = omega arith in
+    let f = size_in s.weight.now s.list in
+    c.loop-i.invariant ∙ ap (fill (first_of s.courses f) (replicate 64 0)) is ∙ fill_first 64 s.courses f s.sound.courses_most

@@ -1,5 +1,4 @@
 -- The loop's invariant: zeros, with the sizes of the first k terms stored.
-use Prim.Native.Nat.{◌-◌}
 use mathlib.Core.Path.{◌≡◌, ap, ◌∙◌}
 use native.Mathlib.Omega.{arith}
 use lib.ListN.{replicate}
@@ -15,15 +14,14 @@ loop-k-init c = search rules
 
 pub loop-k-preserved : goal.loop-k-preserved
 loop-k-preserved c =
-    let a = c.args in
+    let s = c.args.s.now in
     let k = c.loop-k.k in
-    let f = used_in a.term a.s a.c.0 in
-    let used = c.less-in-loop-k.ensures ∙ ap (λ x. a.c.0 - x) c.less.ensures ∙ first_is a.m k f c.loop-k-test.true in
-    (search rules, filling_more 0 16 (first_of a.m f) c.loop-k.r k c.loop-k.invariant.1 _ used)
+    let f = used_in s.term s.sums c.args.c.0 in
+    filling_more 0 16 (first_of s.terms f) c.loop-k.r k c.loop-k.invariant _ ((cc) ∙ first_is s.terms k f c.loop-k-test.true)
 
 pub returns : goal.returns
 returns c =
-    let a = c.args in
-    let is : c.loop-k.k ≡ a.m = omega arith in
-    let f = used_in a.term a.s a.c.0 in
-    c.loop-k.invariant.1 ∙ ap (fill (first_of a.m f) (replicate 16 0)) is ∙ fill_first 16 a.m f c.requires.0
+    let s = c.args.s.now in
+    let is : c.loop-k.k ≡ s.terms = omega arith in
+    let f = used_in s.term s.sums c.args.c.0 in
+    c.loop-k.invariant ∙ ap (fill (first_of s.terms f) (replicate 16 0)) is ∙ fill_first 16 s.terms f s.sound.terms_most

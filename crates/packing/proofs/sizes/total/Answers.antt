@@ -1,27 +1,16 @@
--- The loop's invariant: the sum of the first i sizes, of which each is at most 1,000.
-use mathlib.Core.Path.{◌≡◌, ap, ◌∙◌}
+-- The loop's invariant: the sum over the sizes gone by.
 use native.Mathlib.Omega.{arith}
-use lib.ListN.{length}
+use borrow.Author.Rules.{rules}
 use Rattle.theory.specs.Sum.{sum as total}
 use Rattle.theory.proofs.SumLaws.{sum_more}
 use Rattle.packing.specs.Sizes.{size_at}
-use borrow.Author.Rules.{rules}
 use Rattle.packing.proofs.sizes.total.Goals as goal
 
-pub loop-i-init : goal.loop-i-init
+pub loop-size-init : goal.loop-size-init
 unfolding total
-loop-i-init c = search rules
+loop-size-init c = search rules
 
-pub overflow_add-sum : goal.overflow_add-sum
-overflow_add-sum c =
-    omega (arith, c.requires.by_index c.loop-i.i c.loop-i-test.true)
-
-pub loop-i-preserved : goal.loop-i-preserved
-loop-i-preserved c =
-    let x = c.args.x.now in
-    (search rules, omega (arith, sum_more c.loop-i.i (size_at x)), omega (arith, c.requires.by_index c.loop-i.i c.loop-i-test.true))
-
-pub returns : goal.returns
-returns c =
-    let is : c.loop-i.i ≡ length c.args.x.now = omega arith in
-    (c.loop-i.invariant.1 ∙ ap (λ n. total n (size_at c.args.x.now)) is, omega arith)
+pub loop-size-preserved : goal.loop-size-preserved
+loop-size-preserved c =
+    let more = sum_more c.loop-size.size-index (size_at c.args.x.now) in
+    record { is = omega (arith, c.requires.light c.loop-size.size-index c.loop-size-test.true); small = omega (arith, c.requires.light c.loop-size.size-index c.loop-size-test.true) }

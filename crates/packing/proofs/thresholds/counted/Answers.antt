@@ -4,7 +4,8 @@ use native.Mathlib.Omega.{arith}
 use Rattle.packing.proofs.ThresholdLaws.{from_counts}
 use Rattle.packing.proofs.thresholds.counted.Goals as goal
 
-pub returns-then-heaviest-t : goal.returns-then-heaviest-t
-returns-then-heaviest-t c =
-    let a = c.args in
-    (c.requires.rest_value.0 ∙ from_counts a.a.now a.c.0 a.t.0 a.heaviest.0 c.requires.by_index c.if-heaviest-t.true, omega (arith, c.requires.rest_value.1))
+pub returns-then-load-t : goal.returns-then-load-t
+returns-then-load-t c =
+    let l = c.args.load in
+    let rest = c.requires.rest_is in
+    (rest.0 ∙ from_counts l.course.now l.c.0 c.args.t.0 l.heaviest.0 l.fits.top c.if-load-t.true, omega (arith, rest.1))

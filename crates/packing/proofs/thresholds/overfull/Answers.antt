@@ -1,12 +1,12 @@
 -- Under the bound no t is too much; above it, the thresholds answer.
-use mathlib.Core.Path.{sym}
+use mathlib.Core.Path.{sym, ◌∙◌}
 use native.Mathlib.Omega.{arith}
+use borrow.Author.Tests.{le-ltb}
 use Rattle.packing.proofs.SizeLaws.{none_over}
 use Rattle.packing.proofs.thresholds.overfull.Goals as goal
 
-pub returns-then-x-y : goal.returns-then-x-y
-returns-then-x-y c =
-    sym (none_over c.args.a.now c.args.b.now c.args.c.0 c.args.limit.0 (omega (arith, c.if-x-y.true, c.cap_sum-x.ensures.0, c.cap_sum-y.ensures.0)))
-
-pub some_threshold_exceeds-requires : goal.some_threshold_exceeds-requires
-some_threshold_exceeds-requires c = c.requires
+pub returns-else-load-most : goal.returns-else-load-most
+returns-else-load-most c =
+    let l = c.args.load in
+    le-ltb _ _ c.if-load-most.false
+    ∙ sym (none_over l.course.now l.own.now l.c.0 l.limit.0 (omega (arith, c.if-load-most.false, c.cap_sum.ensures.0, c.cap_sum-2.ensures.0)))

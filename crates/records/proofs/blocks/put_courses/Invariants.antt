@@ -1,13 +1,9 @@
 -- `put_courses`: the blocks of the courses passed so far are laid behind the terms.
-use Prim.Native.Nat.{◌≤◌, ◌-◌, ◌*◌}
+use Prim.Native.Nat.{◌*◌}
 use mathlib.Core.Path.{◌≡◌}
-use lib.ListN.{length}
 use Rattle.records.specs.Writing.{course_block, joined}
 use Rattle.records.specs.Laid.{laid}
 use Rattle.records.proofs.blocks.put_courses.Given as goal
 
 abbrev pub invariant-loop-i : goal.invariant-loop-i
-invariant-loop-i l = (l.i ≤ l.y.courses) × (l.buf ≡ laid l.initial.buf (l.y.terms * 16) (joined (course_block l.y) l.i)) × (length l.buf ≡ length l.initial.buf)
-
-abbrev pub decreases-loop-i : goal.decreases-loop-i
-decreases-loop-i l = l.y.courses - l.i
+invariant-loop-i l = l.buf ≡ laid l.initial.buf (l.y.terms * 16) (joined (course_block l.y) l.i)

@@ -1,13 +1,8 @@
 -- `put_terms`: the blocks of the terms passed so far are laid over the front of the buffer.
-use Prim.Native.Nat.{◌≤◌, ◌-◌}
 use mathlib.Core.Path.{◌≡◌}
-use lib.ListN.{length}
 use Rattle.records.specs.Writing.{term_block, joined}
 use Rattle.records.specs.Laid.{laid}
 use Rattle.records.proofs.blocks.put_terms.Given as goal
 
 abbrev pub invariant-loop-j : goal.invariant-loop-j
-invariant-loop-j l = (l.j ≤ l.y.terms) × (l.buf ≡ laid l.initial.buf 0 (joined (term_block l.y) l.j)) × (length l.buf ≡ length l.initial.buf)
-
-abbrev pub decreases-loop-j : goal.decreases-loop-j
-decreases-loop-j l = l.y.terms - l.j
+invariant-loop-j l = l.buf ≡ laid l.initial.buf 0 (joined (term_block l.y) l.j)

@@ -1,52 +1,40 @@
 -- Refusal 14 twice: for a course with several terms, and for a term outside its bounds. Past both the terms have all credits.
-use mathlib.Core.Bool.{true}
 use mathlib.Core.Path.{◌≡◌, sym, ap, ◌∙◌}
 use native.Mathlib.Omega.{arith}
+use Rattle.std.specs.Prelude.{Ok}
 use Rattle.theory.specs.Sum.{sum}
 use Rattle.theory.proofs.PairLaws.{squares_most, square_least}
-use Rattle.year.specs.Sums.{fixed_credits, all_credits, all_placed}
-use Rattle.year.specs.declared.Year.{Year}
-use Rattle.year.specs.declared.Measured.TheVariants.{Imbalance}
+use Rattle.year.specs.Sums.{fixed_credits, all_credits}
 use Rattle.year.proofs.SumLaws.{all_credits_le}
 use Rattle.year.proofs.OnePlacing.{placed_total}
 use Rattle.year.proofs.ImbalanceLaws.{imbalance_open, imbalance_unfit, imbalance_given}
 use Rattle.totals.proofs.measure.imbalance_sound.Goals as goal
-use Rattle.totals.proofs.measure.imbalance_sound.Goals.{Else-not-all_placed}
+use Rattle.totals.proofs.measure.imbalance_sound.Goals.{then-not-all_placed-via-then-not-all_placed, then-not-all_placed-via-else-not-all_placed+then-not-all_fit}
 
 pub returns-then-not-all_placed : goal.returns-then-not-all_placed
 returns-then-not-all_placed c =
-    sym (imbalance_open c.args.y c.requires (sym c.all_placed.ensures ∙ c.if-not-all_placed.true))
-
--- past the first refusal every course has one term, so the terms have all credits
-abbrev year : Else-not-all_placed → Year
-year c = c.args.y
-
-placed : (c : Else-not-all_placed) → all_placed (year c) ≡ true
-placed c = sym c.all_placed.ensures ∙ c.if-not-all_placed.false
-
-total : (c : Else-not-all_placed) → sum (year c).terms (fixed_credits (year c)) ≡ all_credits (year c)
-total c = placed_total (year c) c.requires (placed c)
+    elim c.then-not-all_placed.branch [
+      | then-not-all_placed-via-then-not-all_placed w ↦ sym (imbalance_open c.args.y c.requires (sym c.all_placed.ensures ∙ w.if-not-all_placed.true))
+      | then-not-all_placed-via-else-not-all_placed+then-not-all_fit w ↦ sym (imbalance_unfit c.args.y c.requires (sym c.all_placed.ensures ∙ w.if-not-all_placed.false) (sym w.all_fit.ensures ∙ w.if-not-all_fit.true))
+    ]
 
 pub difference-requires : goal.difference-requires
 difference-requires c =
-    let e = (goal.at.difference-requires c).Else-not-all_placed in
-    let y = year e in
-    let s = e.requires in
-    let l = c.loads_of.ensures in (
-      s.terms_most,
-      omega (arith, l.0, total e, all_credits_le y s, s.courses_most),
-      rw (l.0, l.1) (squares_most y.terms (fixed_credits y)),
-      rw (l.0, l.1) (square_least y.terms (fixed_credits y)),
-    )
-
-pub returns-then-all_fit : goal.returns-then-all_fit
-returns-then-all_fit c =
-    let e = (goal.at.returns-then-all_fit c).Else-not-all_placed in
+    let y = c.args.y in
+    let s = c.requires in
     let l = c.loads_of.ensures in
-    ap Imbalance (rw (l.0, l.1, total e) at c.difference.ensures)
-    ∙ sym (imbalance_given (year e) e.requires (placed e) (sym c.all_fit.ensures ∙ c.if-all_fit.true))
+    let total : sum y.terms (fixed_credits y) ≡ all_credits y = placed_total y s (sym c.all_placed.ensures ∙ c.if-not-all_placed.false) in (
+      s.terms_most,
+      omega (arith, l.all, total, all_credits_le y s, s.courses_most),
+      rw (l.all, l.squares) (squares_most y.terms (fixed_credits y)),
+      rw (l.all, l.squares) (square_least y.terms (fixed_credits y)),
+    )
 
 pub returns : goal.returns
 returns c =
-    let e = (goal.at.returns c).Else-not-all_placed in
-    sym (imbalance_unfit (year e) e.requires (placed e) (sym c.all_fit.ensures ∙ c.if-all_fit.false))
+    let y = c.args.y in
+    let s = c.requires in
+    let l = c.loads_of.ensures in
+    let placed = sym c.all_placed.ensures ∙ c.if-not-all_placed.false in
+    ap Ok (rw (l.all, l.squares, placed_total y s placed) at c.difference.ensures)
+    ∙ sym (imbalance_given y s placed (sym c.all_fit.ensures ∙ c.if-not-all_fit.false))

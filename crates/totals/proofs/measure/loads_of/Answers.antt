@@ -37,42 +37,51 @@ few c = omega (arith, c.loop-k-test.true, c.requires)
 
 pub bounds-y-k : goal.bounds-y-k
 bounds-y-k c =
-    omega (arith, c.loop-k-test.true, sums_long c.args.y c.requires, c.requires)
+    omega (arith, c.loop-k-test.true, sums_long c.args.y.now c.requires, c.requires)
 
 -- what the year carries for it
-carried : (c : In-loop-k) → fixed_in c.args.y.sums c.loop-k.k ≡ fixed_credits c.args.y c.loop-k.k
+carried : (c : In-loop-k) → fixed_in c.args.y.now.sums c.loop-k.k ≡ fixed_credits c.args.y.now c.loop-k.k
 carried c =
-    let y = c.args.y in
+    let y = c.args.y.now in
     fixed_read y y.sums c.requires.sums_kept c.loop-k.k (few c)
 
-entry : (c : In-loop-k) → fixed_in c.args.y.sums c.loop-k.k ≤ 64000
-entry c = entry-small c.args.y c.requires c.loop-k.k _ (few c) (carried c)
+entry : (c : In-loop-k) → fixed_in c.args.y.now.sums c.loop-k.k ≤ 64000
+entry c = entry-small c.args.y.now c.requires c.loop-k.k _ (few c) (carried c)
 
 pub overflow_add-all : goal.overflow_add-all
 overflow_add-all c =
     let i = (goal.at.overflow_add-all c).In-loop-k in
-    omega (arith, c.loop-k.invariant.1, credits-small c.args.y c.requires c.loop-k.k (fixed_in c.args.y.sums c.loop-k.k) (few i) (carried i))
+    omega (arith, c.loop-k.invariant.1, credits-small c.args.y.now c.requires c.loop-k.k (fixed_in c.args.y.now.sums c.loop-k.k) (few i) (carried i))
+
+-- the same in 64 bits
+wide : (c : In-loop-k) (x : ℕ) → x ≡ fixed_in c.args.y.now.sums c.loop-k.k → x ≡ fixed_credits c.args.y.now c.loop-k.k
+wide c x e = e ∙ carried c
 
 pub overflow_mul-squares : goal.overflow_mul-squares
-overflow_mul-squares c = omega (arith, mul-le-mul (entry (goal.at.overflow_mul-squares c).In-loop-k) (entry (goal.at.overflow_mul-squares c).In-loop-k))
+overflow_mul-squares c =
+    let i = (goal.at.overflow_mul-squares c).In-loop-k in
+    let small = entry-small c.args.y.now c.requires c.loop-k.k _ (few i) (wide i _ c.from-wide.ensures) in
+    omega (arith, mul-le-mul small small)
 
 pub overflow_add-squares : goal.overflow_add-squares
 overflow_add-squares c =
     let i = (goal.at.overflow_add-squares c).In-loop-k in
-    omega (arith, c.loop-k.invariant.2, squares-small c.args.y c.requires c.loop-k.k (fixed_in c.args.y.sums c.loop-k.k) (few i) (carried i))
+    omega (arith, c.loop-k.invariant.2, squares-small c.args.y.now c.requires c.loop-k.k c.from-wide.result (few i) (wide i _ c.from-wide.ensures))
 
 pub loop-k-preserved : goal.loop-k-preserved
 loop-k-preserved c =
-    let y = c.args.y in (
+    let y = c.args.y.now in
+    let i = (goal.at.loop-k-preserved c).In-loop-k in (
       search rules,
-      ap₂ ◌+◌ c.loop-k.invariant.1 (carried (goal.at.loop-k-preserved c).In-loop-k) ∙ sym (sum_more c.loop-k.k (fixed_credits y)),
-      ap₂ (λ n x. n + square x) c.loop-k.invariant.2 (carried (goal.at.loop-k-preserved c).In-loop-k) ∙ sym (sum_more c.loop-k.k (λ j. square (fixed_credits y j))),
+      ap₂ ◌+◌ c.loop-k.invariant.1 (carried i) ∙ sym (sum_more c.loop-k.k (fixed_credits y)),
+      ap₂ (λ n x. n + square x) c.loop-k.invariant.2 (wide i _ c.from-wide.ensures) ∙ sym (sum_more c.loop-k.k (λ j. square (fixed_credits y j))),
     )
 
 pub returns : goal.returns
 returns c =
-    let y = c.args.y in
-    let last : c.loop-k.k ≡ y.terms = omega (arith, c.loop-k.invariant.0, c.loop-k-test.false) in (
-      c.loop-k.invariant.1 ∙ ap (λ n. sum n (fixed_credits y)) last,
-      c.loop-k.invariant.2 ∙ ap (λ n. sum n (λ j. square (fixed_credits y j))) last,
-    )
+    let y = c.args.y.now in
+    let last : c.loop-k.k ≡ y.terms = omega (arith, c.loop-k.invariant.0, c.loop-k-test.false) in
+    record {
+      all = c.loop-k.invariant.1 ∙ ap (λ n. sum n (fixed_credits y)) last;
+      squares = c.loop-k.invariant.2 ∙ ap (λ n. sum n (λ j. square (fixed_credits y j))) last;
+    }

@@ -1,7 +1,6 @@
 -- The loop's invariant: the flag says whether one of the first k terms is listed with spare 0.
 use mathlib.Core.Bool.{Bool, ◌||◌}
-use mathlib.Core.Path.{◌≡◌, sym, ap, ◌∙◌}
-use native.Mathlib.Omega.{arith}
+use mathlib.Core.Path.{sym, ap, ◌∙◌}
 use borrow.Author.Rules.{rules}
 use Rattle.theory.specs.Tests.{any}
 use Rattle.theory.proofs.TestLaws.{any_more}
@@ -15,9 +14,4 @@ loop-k-init c = search rules
 pub loop-k-preserved : goal.loop-k-preserved
 loop-k-preserved c =
     let f = stuck c.args.spare c.args.list in
-    (search rules, ap (λ (t : Bool). t || f c.loop-k.k) c.loop-k.invariant.1 ∙ sym (any_more c.loop-k.k f))
-
-pub returns : goal.returns
-returns c =
-    let is : c.loop-k.k ≡ 16 = omega arith in
-    c.loop-k.invariant.1 ∙ ap (λ n. any n (stuck c.args.spare c.args.list)) is
+    ap (λ (t : Bool). t || f c.loop-k.k) c.loop-k.invariant ∙ sym (any_more c.loop-k.k f)

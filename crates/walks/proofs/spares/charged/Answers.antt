@@ -2,7 +2,7 @@
 use mathlib.Core.Path.{◌∙◌}
 use native.Mathlib.Omega.{arith}
 use borrow.Author.Rules.{rules}
-use Rattle.theory.proofs.TabLaws.{fill, filling_long, filling_more, filling_ends}
+use Rattle.theory.proofs.TabLaws.{fill, filling_more, filling_ends}
 use Rattle.walks.specs.Sparing.{charged_at}
 use Rattle.walks.proofs.SparingLaws.{charged_entry}
 use Rattle.walks.proofs.spares.charged.Goals as goal
@@ -11,16 +11,12 @@ pub loop-k-init : goal.loop-k-init
 unfolding fill
 loop-k-init c = search rules
 
-pub bounds-s-k : goal.bounds-s-k
-bounds-s-k c =
-    omega (arith, filling_long 0 16 (charged_at c.args.spare c.args.list) c.loop-k.s c.loop-k.k c.loop-k.invariant.1)
-
 pub loop-k-preserved : goal.loop-k-preserved
 loop-k-preserved c =
     let a = c.args in
-    let is = c.less.ensures ∙ charged_entry a.spare a.list c.loop-k.k in
-    (search rules, filling_more 0 16 (charged_at a.spare a.list) c.loop-k.s c.loop-k.k c.loop-k.invariant.1 _ is)
+    let is = c.saturating_sub.ensures ∙ charged_entry a.spare a.list c.loop-k.k in
+    filling_more 0 16 (charged_at a.spare a.list) c.loop-k.s c.loop-k.k c.loop-k.invariant _ is
 
 pub returns : goal.returns
 returns c =
-    filling_ends 0 16 (charged_at c.args.spare c.args.list) c.loop-k.s c.loop-k.k c.loop-k.invariant.1 (omega arith)
+    filling_ends 0 16 (charged_at c.args.spare c.args.list) c.loop-k.s c.loop-k.k c.loop-k.invariant (omega arith)

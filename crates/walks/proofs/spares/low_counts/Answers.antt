@@ -2,7 +2,7 @@
 use mathlib.Core.Path.{refl}
 use native.Mathlib.Omega.{arith}
 use borrow.Author.Rules.{rules}
-use Rattle.theory.proofs.TabLaws.{fill, filling_long, filling_more, filling_ends}
+use Rattle.theory.proofs.TabLaws.{fill, filling_more, filling_ends}
 use Rattle.frame.specs.Bounds.{least_in}
 use Rattle.walks.proofs.spares.low_counts.Goals as goal
 
@@ -10,14 +10,8 @@ pub loop-k-init : goal.loop-k-init
 unfolding fill
 loop-k-init c = search rules
 
-pub overflow_cast-s : goal.overflow_cast-s
-overflow_cast-s c = omega (arith, c.requires c.loop-k.k c.loop-k-test.true)
-
-pub bounds-s-k : goal.bounds-s-k
-bounds-s-k c = omega (arith, filling_long 0 16 (least_in c.args.term) c.loop-k.s c.loop-k.k c.loop-k.invariant.1)
-
 pub loop-k-preserved : goal.loop-k-preserved
-loop-k-preserved c = (search rules, filling_more 0 16 (least_in c.args.term) c.loop-k.s c.loop-k.k c.loop-k.invariant.1 _ refl)
+loop-k-preserved c = filling_more 0 16 (least_in c.args.term.now) c.loop-k.s c.loop-k.k c.loop-k.invariant _ refl
 
 pub returns : goal.returns
-returns c = filling_ends 0 16 (least_in c.args.term) c.loop-k.s c.loop-k.k c.loop-k.invariant.1 (omega arith)
+returns c = filling_ends 0 16 (least_in c.args.term.now) c.loop-k.s c.loop-k.k c.loop-k.invariant (omega arith)

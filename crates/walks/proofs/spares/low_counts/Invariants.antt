@@ -1,12 +1,8 @@
 -- The loop's invariant: the array is filled with the low counts of the first k terms.
-use Prim.Native.Nat.{◌≤◌, ◌-◌}
 use mathlib.Core.Path.{◌≡◌}
 use Rattle.theory.proofs.TabLaws.{fill}
 use Rattle.frame.specs.Bounds.{least_in}
 use Rattle.walks.proofs.spares.low_counts.Given as goal
 
 abbrev pub invariant-loop-k : goal.invariant-loop-k
-invariant-loop-k l = (l.k ≤ 16) × (l.s ≡ fill (least_in l.term) l.initial.s l.k)
-
-abbrev pub decreases-loop-k : goal.decreases-loop-k
-decreases-loop-k l = 16 - l.k
+invariant-loop-k l = l.s ≡ fill (least_in l.term) l.initial.s l.k

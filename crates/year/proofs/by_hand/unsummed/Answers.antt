@@ -8,6 +8,7 @@ use borrow.Author.Rules.{rules}
 use Rattle.theory.proofs.TabLaws.{fill, filling_long, filling_more, filling_ends, tab_get_or, map_tab}
 use Rattle.year.specs.Year.{zero_course}
 use Rattle.year.specs.declared.Course.{Course}
+use Rattle.year.proofs.SumLaws.{all_zero}
 use Rattle.year.proofs.by_hand.unsummed.Invariants.{weight_of, list_of, columnAt}
 use Rattle.year.proofs.by_hand.unsummed.Goals as goal
 
@@ -20,17 +21,17 @@ pub loop-i-init : goal.loop-i-init
 unfolding fill
 loop-i-init c = search rules
 
-pub bounds-w-i : goal.bounds-w-i
-bounds-w-i c = let l = c.before in omega (arith, filling_long 0 64 (columnAt weight_of l.args.course) l.loop-i.w l.loop-i.i l.loop-i.invariant.1)
+pub bounds-weight-i : goal.bounds-weight-i
+bounds-weight-i c = let l = c.before in omega (arith, filling_long 0 64 (columnAt weight_of l.args.course) l.loop-i.weight l.loop-i.i l.loop-i.invariant.1)
 
-pub bounds-l-i : goal.bounds-l-i
-bounds-l-i c = let l = c.before in omega (arith, filling_long 0 64 (columnAt list_of l.args.course) l.loop-i.l l.loop-i.i l.loop-i.invariant.2)
+pub bounds-list-i : goal.bounds-list-i
+bounds-list-i c = let l = c.before in omega (arith, filling_long 0 64 (columnAt list_of l.args.course) l.loop-i.list l.loop-i.i l.loop-i.invariant.2)
 
 pub loop-i-preserved : goal.loop-i-preserved
 loop-i-preserved c =
     let l = c.before in
     let cs = l.args.course in
-    (search rules, filling_more 0 64 (columnAt weight_of cs) l.loop-i.w l.loop-i.i l.loop-i.invariant.1 _ refl, filling_more 0 64 (columnAt list_of cs) l.loop-i.l l.loop-i.i l.loop-i.invariant.2 _ refl)
+    (search rules, filling_more 0 64 (columnAt weight_of cs) l.loop-i.weight l.loop-i.i l.loop-i.invariant.1 _ refl, filling_more 0 64 (columnAt list_of cs) l.loop-i.list l.loop-i.i l.loop-i.invariant.2 _ refl)
 
 pub returns : goal.returns
 returns c =
@@ -38,7 +39,7 @@ returns c =
     let a = l.args in
     let is : l.loop-i.i ≡ 64 = omega arith in
     let long : length a.course ≡ 64 = l.well_formed.1.1.1.0.1.0.1 in
-    let w = filled weight_of a.course l.loop-i.w l.loop-i.i is long l.loop-i.invariant.1 in
-    let v = filled list_of a.course l.loop-i.l l.loop-i.i is long l.loop-i.invariant.2 in
-    let z = c.nothing-z.ensures in
+    let w = filled weight_of a.course l.loop-i.weight l.loop-i.i is long l.loop-i.invariant.1 in
+    let v = filled list_of a.course l.loop-i.list l.loop-i.i is long l.loop-i.invariant.2 in
+    let z = all_zero c.default.result c.default.ensures in
     λ i. record { terms = a.terms; courses = a.courses; term = a.term; weight = w i; list = v i; sums = replicate 16 (z i) }

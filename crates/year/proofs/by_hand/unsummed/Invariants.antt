@@ -19,7 +19,7 @@ abbrev pub weight_of : Course → ℕ
 weight_of c = c.weight.0
 
 abbrev pub invariant-loop-i : goal.invariant-loop-i
-invariant-loop-i l = (l.i ≤ 64) × (l.w ≡ fill (columnAt weight_of l.course) l.initial.w l.i) × (l.l ≡ fill (columnAt list_of l.course) l.initial.l l.i)
+invariant-loop-i l = (l.i ≤ 64) × (l.weight ≡ fill (columnAt weight_of l.course) l.initial.weight l.i) × (l.list ≡ fill (columnAt list_of l.course) l.initial.list l.i)
 
 abbrev pub decreases-loop-i : goal.decreases-loop-i
 decreases-loop-i l = 64 - l.i

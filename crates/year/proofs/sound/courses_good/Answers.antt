@@ -19,11 +19,11 @@ pub loop-i-preserved : goal.loop-i-preserved
 loop-i-preserved c =
     let o = c.before in
     let l = o.before.before.before.before in
-    let y = l.args.y in
+    let y = l.args.y.now in
     let one : c.course_good-good.result ≡ course_good y l.loop-i.i = c.course_good-good.ensures ∙ ap (λ (x : Course). choose (ltb l.loop-i.i y.courses) (course_sound x y.terms) (course_blank x)) o.course_of-c.ensures in
     (search rules, ap₂ ◌&&◌ l.loop-i.invariant.1 one ∙ sym (all_more l.loop-i.i (course_good y)))
 
 pub returns : goal.returns
 returns c =
     let is : c.loop-i.i ≡ 64 = omega arith in
-    c.loop-i.invariant.1 ∙ ap (λ n. all n (course_good c.args.y)) is
+    c.loop-i.invariant.1 ∙ ap (λ n. all n (course_good c.args.y.now)) is

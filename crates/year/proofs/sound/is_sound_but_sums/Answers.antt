@@ -1,39 +1,33 @@
--- Each early return is a clause of the test that fails. That the arrays have their lengths is what holding a year tells.
-use mathlib.Core.Path.{◌≡◌, ap₂}
-use mathlib.Core.Bool.{◌&&◌, true}
+-- Each test is the definition's. That the arrays have their lengths is what holding a year tells.
+use mathlib.Core.Path.{◌≡◌, sym, ◌∙◌}
+use mathlib.Core.Bool.{true, true≢false}
 use lib.ListN.{length}
-use borrow.Author.Tests.{lt-leb, le-leb, eq-eqb}
+use borrow.Author.Rules.{rules}
+use borrow.Author.Tests.{eq-eqb}
 use Rattle.year.specs.Sound.{sound_but_sums, shaped}
 use Rattle.year.proofs.sound.is_sound_but_sums.Goals as goal
-use Rattle.year.proofs.sound.is_sound_but_sums.Goals.{Start}
+use Rattle.year.proofs.sound.is_sound_but_sums.Goals.{Start, then-sized, else-sized}
 
 -- an array of the program has its length
-shape : (c : Start) → shaped c.args.y ≡ true
+shape : (c : Start) → shaped c.args.y.now ≡ true
 shape c =
-    let t : length c.args.y.term ≡ 16 = c.well_formed.0.1.1.1.1.0.1.0.1 in
-    let w : length c.args.y.weight ≡ 64 = c.well_formed.0.1.1.1.1.1.0.1.0.1 in
-    let l : length c.args.y.list ≡ 64 = c.well_formed.0.1.1.1.1.1.1.0.1.0.1 in
+    let t : length c.args.y.now.term ≡ 16 = search rules in
+    let w : length c.args.y.now.weight ≡ 64 = search rules in
+    let l : length c.args.y.now.list ≡ 64 = search rules in
     simp (eq-eqb _ _ t, eq-eqb _ _ w, eq-eqb _ _ l)
 
-pub returns-then-y-lt1 : goal.returns-then-y-lt1
+pub returns-then-terms_good : goal.returns-then-terms_good
 unfolding sound_but_sums
-returns-then-y-lt1 c = simp (lt-leb _ _ c.if-y-lt1.true)
+returns-then-terms_good c =
+    elim c.if-sized.branch [
+      | then-sized w ↦ simp (w.if-sized.true, shape (goal.at.returns-then-terms_good c).Start, sym w.terms_good.ensures ∙ sym w.value-is ∙ c.if-terms_good.true) c.courses_good.ensures
+      | else-sized w ↦ absurd (true≢false (sym c.if-terms_good.true ∙ w.value-is ∙ w.if-sized.false))
+    ]
 
-pub returns-then-y-gt-TERMS : goal.returns-then-y-gt-TERMS
+pub returns-else-terms_good : goal.returns-else-terms_good
 unfolding sound_but_sums
-returns-then-y-gt-TERMS c = simp (le-leb _ _ c.if-y-lt1.false, lt-leb _ _ c.if-y-gt-TERMS.true)
-
-pub returns-then-y-gt-COURSES : goal.returns-then-y-gt-COURSES
-unfolding sound_but_sums
-returns-then-y-gt-COURSES c = simp (le-leb _ _ c.if-y-lt1.false, le-leb _ _ c.if-y-gt-TERMS.false, lt-leb _ _ c.if-y-gt-COURSES.true)
-
-pub returns : goal.returns
-unfolding sound_but_sums
-returns c =
-    simp (
-      le-leb _ _ c.if-y-lt1.false,
-      le-leb _ _ c.if-y-gt-TERMS.false,
-      le-leb _ _ c.if-y-gt-COURSES.false,
-      shape (goal.at.returns c).Start,
-    )
-    (ap₂ ◌&&◌ c.terms_good.ensures c.courses_good.ensures)
+returns-else-terms_good c =
+    elim c.if-sized.branch [
+      | then-sized w ↦ simp (w.if-sized.true, shape (goal.at.returns-else-terms_good c).Start, sym w.terms_good.ensures ∙ sym w.value-is ∙ c.if-terms_good.false) c.if-terms_good.false
+      | else-sized w ↦ simp (w.if-sized.false) c.if-terms_good.false
+    ]

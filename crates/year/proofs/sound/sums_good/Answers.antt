@@ -1,22 +1,39 @@
 -- The sums over the two columns are the year's, and each is held against the one that it carries.
-use mathlib.Core.Path.{ap, ◌∙◌}
+use mathlib.Core.Bool.{Bool, true, false, ◌&&◌}
+use mathlib.Core.Path.{◌≡◌, refl, ap, ◌∙◌}
 use native.Mathlib.Omega.{arith}
+use lib.ListN.{length}
+use lib.Dec.{eqb}
+use borrow.Author.Rules.{rules}
 use Rattle.theory.proofs.TestLaws.{all_same}
-use Rattle.theory.proofs.TabLaws.{get_or_tab}
+use Rattle.theory.proofs.TabLaws.{get_or_tab, length_tab}
 use Rattle.year.specs.Sums.{fixed_credits, open_credits, fixed_count, open_count, no_sums, sums_in, sums_at}
 use Rattle.year.specs.Sound.{sums_same, sums_good}
+use Rattle.year.specs.declared.Sums.{Sums}
+use Rattle.year.proofs.EntryLaws.{by_entries}
 use Rattle.year.proofs.SoundLaws.{summed_sound}
 use Rattle.year.proofs.sound.sums_good.Goals as goal
 
 pub sums_over-requires : goal.sums_over-requires
 sums_over-requires c =
-    let s = summed_sound c.args.y c.requires in
-    record { n_bound = (s.courses_most, omega (arith, s), omega (arith, s), s.terms_most); by_index = λ i h. ((s.course_sound i h).weight_most, (s.course_sound i h).list_within) }
+    let s = summed_sound c.args.y.now c.requires in
+    record { courses_there = (s.courses_most, omega (arith, s), omega (arith, s)); terms_there = s.terms_most; courses_sized = λ i h. ((s.course_sound i h).weight_most, (s.course_sound i h).list_within) }
+
+-- two terms' sums are the same by the four of them
+four : (p q r s : Bool) → p && (q && (r && s)) ≡ p && q && r && s
+four true true r s = refl
+four true false r s = refl
+four false q r s = refl
+
+fields : (a b : Sums) → eqb a.fixed.0 b.fixed.0 && (eqb a.possible.0 b.possible.0 && (eqb a.placed.0 b.placed.0 && eqb a.free.0 b.free.0)) ≡ sums_same a b
+fields a b = four (eqb a.fixed.0 b.fixed.0) (eqb a.possible.0 b.possible.0) (eqb a.placed.0 b.placed.0) (eqb a.free.0 b.free.0)
 
 pub returns : goal.returns
 unfolding sums_at fixed_credits open_credits fixed_count open_count
 returns c =
-    let y = c.args.y in
-    c.all_same.ensures
-    ∙ all_same 16 (λ k. sums_same (sums_in y.sums k) (sums_in c.sums_over.result k)) (sums_good y)
-    (λ k h. ap (λ s. sums_same (sums_in y.sums k) s) (ap (λ s. sums_in s k) c.sums_over.ensures ∙ get_or_tab 16 (sums_at y) no_sums k h))
+    let y = c.args.y.now in
+    let long : length y.sums ≡ 16 = search rules in
+    c.eq.ensures
+    ∙ by_entries _ no_sums 16 y.sums c.sums_over.result long (ap length c.sums_over.ensures ∙ length_tab 16 (sums_at y))
+    ∙ all_same 16 _ (sums_good y)
+    (λ k h. fields (sums_in y.sums k) (sums_in c.sums_over.result k) ∙ ap (sums_same (sums_in y.sums k)) (ap (λ s. sums_in s k) c.sums_over.ensures ∙ get_or_tab 16 (sums_at y) no_sums k h))
