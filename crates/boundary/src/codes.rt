@@ -1,7 +1,6 @@
 // Answers packed into one number.
 ghost use Rattle.std.specs.Prelude.{◌≡◌, ◌<◌, ◌^◌, Err, Result};
 ghost use Rattle.year.specs.Imbalance.{imbalance_of};
-ghost use Rattle.year.specs.Sound.{Sound};
 ghost use Rattle.records.specs.Numbers.{reading_place};
 ghost use Rattle.hours.specs.Numbers.{joining_place};
 ghost use Rattle.boundary.specs.Packed.{told, packed, reading_told, joining_told, narrowing_told, measured_told, answer_detail, answer_told};
@@ -9,7 +8,7 @@ ghost use Rattle.boundary.specs.Packed.{told, packed, reading_told, joining_told
 use filter::Answer;
 use hours::JoiningRefusal;
 use records::Refusal;
-use year::{ImbalanceRefusal, NarrowingRefusal, Year};
+use year::{ImbalanceRefusal, NarrowingRefusal, SoundYear};
 
 // The answer of a call that is done and has nothing to tell, and to a buffer that is too short.
 pub const DONE: u64 = 0;
@@ -65,9 +64,8 @@ pub fn narrowing(answer: Result<(), NarrowingRefusal>) -> u64
 }
 
 // Of a sound year.
-pub fn imbalance(y: Year) -> u64
-    requires { Sound y }
-    ensures { result ≡ packed (measured_told (imbalance_of y)) }
+pub fn imbalance(y: &SoundYear) -> u64
+    ensures { result ≡ packed (measured_told (imbalance_of y.now.year)) }
 {
     match totals::measure::imbalance_sound(y) {
         Ok(v) => pack(0, 0, v),

@@ -1,6 +1,5 @@
 // A year filtered or narrowed into a lent list.
 ghost use Rattle.std.specs.Prelude.{◌≡◌, ◌+◌, ◌*◌, ◌≤◌, length};
-ghost use Rattle.year.specs.Sound.{Sound};
 ghost use Rattle.filter.specs.Filter.{filter_of};
 ghost use Rattle.boundary.specs.Packed.{packed, narrowing_told, answer_told};
 ghost use Rattle.boundary.specs.Calls.{filter_left, narrow_of, narrow_left};
@@ -8,21 +7,24 @@ ghost use Rattle.boundary.specs.Calls.{filter_left, narrow_of, narrow_left};
 use crate::codes;
 use crate::kinds::Kind;
 use filter::{Answer, Filtered};
-use year::{Narrowed, NarrowingRefusal, Year};
+use year::{Narrowed, NarrowingRefusal, SoundYear, Year};
 
 // Filters a year that was read into a list as long as the one that it was read from, by any filtering that gives of it what the
 // definition gives.
-pub fn filter_into<F: FnOnce(Year) -> Filtered>(y: Year, filtering: F, out: &mut [u8]) -> u64
-    requires sound { Sound y }
-    requires room { (y.terms + y.courses) * 16 ≤ length out.old }
+pub fn filter_into<F: FnOnce(SoundYear) -> Filtered>(
+    y: SoundYear,
+    filtering: F,
+    out: &mut [u8],
+) -> u64
+    requires room { (y.year.terms + y.year.courses) * 16 ≤ length out.old }
     requires may_filter { F.pre filtering y }
-    requires filters { (f : _) → F.post filtering y f → f ≡ filter_of y }
-    ensures value { result ≡ packed (answer_told (filter_of y).answer) }
-    ensures out_after { out.new ≡ filter_left (filter_of y).answer (filter_of y).year out.old }
+    requires filters { (f : _) → F.post filtering y f → f ≡ filter_of y.year }
+    ensures value { result ≡ packed (answer_told (filter_of y.year).answer) }
+    ensures out_after { out.new ≡ filter_left (filter_of y.year).answer (filter_of y.year).year out.old }
 {
     let Filtered { answer, year } = filtering(y);
     match answer {
-        Answer::Settled(_) | Answer::Open(_) => records::write_sound(year, out),
+        Answer::Settled(_) | Answer::Open(_) => records::write_sound(&SoundYear { year }, out),
         Answer::NoPlan(_, _) | Answer::Unsound => {}
     }
     codes::answer(answer)

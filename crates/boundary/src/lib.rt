@@ -9,12 +9,11 @@ mod into;
 pub mod kinds;
 
 ghost use Rattle.std.specs.Prelude.{◌≡◌, length};
-ghost use Rattle.year.specs.Sound.{Sound};
 ghost use Rattle.filter.specs.Filter.{filter_of};
 ghost use Rattle.boundary.specs.Calls.{read_code, filter_code, filter_out, narrow_code, narrow_out, imbalance_code, join_code, join_out};
 
 use filter::Filtered;
-use year::Year;
+use year::SoundYear;
 
 // Reads a list.
 pub fn turfsteeple_read(list: &[u8]) -> u64
@@ -35,13 +34,13 @@ pub fn turfsteeple_filter(list: &[u8], out: &mut [u8]) -> u64
 }
 
 // The same by any filtering that gives of a sound year what the definition gives.
-pub fn filter_by<F: FnOnce(Year) -> Filtered>(list: &[u8], filtering: F, out: &mut [u8]) -> u64
-    requires may_filter { (y : Year) → Sound y → F.pre filtering y }
-    requires filters { (y : Year) (f : Filtered) → F.post filtering y f → f ≡ filter_of y }
+pub fn filter_by<F: FnOnce(SoundYear) -> Filtered>(list: &[u8], filtering: F, out: &mut [u8]) -> u64
+    requires may_filter { (y : SoundYear) → F.pre filtering y }
+    requires filters { (y : SoundYear) (f : Filtered) → F.post filtering y f → f ≡ filter_of y.year }
     ensures value { result ≡ filter_code list.now (length out.old) }
     ensures out_after { out.new ≡ filter_out list.now out.old }
 {
-    match records::read(list) {
+    match records::read_sound(list) {
         Ok(_) if out.len() < list.len() => codes::SHORT,
         Ok(year) => into::filter_into(year, filtering, out),
         Err(refusal) => codes::refused(refusal),
@@ -64,8 +63,8 @@ pub fn turfsteeple_narrow(list: &[u8], kind: u32, a: u32, b: u32, out: &mut [u8]
 pub fn turfsteeple_imbalance(list: &[u8]) -> u64
     ensures { result ≡ imbalance_code list.now }
 {
-    match records::read(list) {
-        Ok(year) => codes::imbalance(year),
+    match records::read_sound(list) {
+        Ok(year) => codes::imbalance(&year),
         Err(refusal) => codes::refused(refusal),
     }
 }
@@ -75,10 +74,10 @@ pub fn turfsteeple_join(terms: &[u8], hours: &[u8], out: &mut [u8]) -> u64
     ensures value { result ≡ join_code terms.now hours.now (length out.old) }
     ensures out_after { out.new ≡ join_out terms.now hours.now out.old }
 {
-    match hours::join(terms, hours) {
+    match hours::join_sound(terms, hours) {
         Ok(_) if out.len() < terms.len() + hours.len() => codes::SHORT,
         Ok(year) => {
-            records::write_sound(year, out);
+            records::write_sound(&year, out);
             codes::DONE
         }
         Err(refusal) => codes::unjoined(refusal),

@@ -3,7 +3,6 @@
 
 ghost use Rattle.std.specs.Prelude.{◌≡◌, ◌<◌, ◌++◌, length, take};
 ghost use Rattle.text.specs.Page.{Room};
-ghost use Rattle.year.specs.Sound.{Sound};
 ghost use Rattle.records.specs.Writing.{joined};
 ghost use Rattle.filter.specs.Filter.{filter_of};
 ghost use Rattle.display.specs.Numbers.{listed_length};
@@ -11,7 +10,7 @@ ghost use Rattle.display.specs.Listing.{term_line, course_line, term_line_at, co
 
 use filter::Answer;
 use text::Page;
-use year::{Course, Term, Year, pairs};
+use year::{Course, SoundYear, Term, pairs};
 
 // Refusal 9: the lent buffer is shorter than the text.
 #[derive(Clone, Copy, PartialEq, Eq, Debug)]
@@ -45,31 +44,30 @@ fn course_line(page: &mut Page, i: usize, c: Course)
     page.put(b"\n");
 }
 
-fn term_lines(page: &mut Page, y: &Year)
-    requires sound { Sound y.now }
-    requires room { Room page.old (joined (term_line_at y.now) y.now.terms) }
-    ensures { page.new ≡ page.old ++ joined (term_line_at y.now) y.now.terms }
+fn term_lines(page: &mut Page, y: &SoundYear)
+    requires room { Room page.old (joined (term_line_at y.now.year) y.now.year.terms) }
+    ensures { page.new ≡ page.old ++ joined (term_line_at y.now.year) y.now.year.terms }
 {
+    let y = &y.year;
     for j in 0..y.terms {
         term_line(page, j, y.term[j]);
     }
 }
 
-fn course_lines(page: &mut Page, y: &Year)
-    requires sound { Sound y.now }
-    requires room { Room page.old (joined (course_line_at y.now) y.now.courses) }
-    ensures { page.new ≡ page.old ++ joined (course_line_at y.now) y.now.courses }
+fn course_lines(page: &mut Page, y: &SoundYear)
+    requires room { Room page.old (joined (course_line_at y.now.year) y.now.year.courses) }
+    ensures { page.new ≡ page.old ++ joined (course_line_at y.now.year) y.now.year.courses }
 {
+    let y = &y.year;
     for i in 0..y.courses {
         course_line(page, i, pairs::course_of(y.weight[i], y.list[i]));
     }
 }
 
 // An answer that names the rounds, and the year.
-fn with_year(page: &mut Page, word: &[u8], rounds: u32, y: &Year)
-    requires sound { Sound y.now }
-    requires room { Room page.old (year_text word.now rounds y.now) }
-    ensures { page.new ≡ page.old ++ year_text word.now rounds y.now }
+fn with_year(page: &mut Page, word: &[u8], rounds: u32, y: &SoundYear)
+    requires room { Room page.old (year_text word.now rounds y.now.year) }
+    ensures { page.new ≡ page.old ++ year_text word.now rounds y.now.year }
 {
     page.line(word, &[rounds]);
     term_lines(page, y);
@@ -85,15 +83,14 @@ fn with_pair(page: &mut Page, word: &[u8], a: u32, b: u32)
 }
 
 // The listing of a sound year.
-fn filtered(page: &mut Page, y: Year)
-    requires sound { Sound y }
-    requires room { Room page.old (filtered_text (filter_of y)) }
-    ensures { page.new ≡ page.old ++ filtered_text (filter_of y) }
+fn filtered(page: &mut Page, y: SoundYear)
+    requires room { Room page.old (filtered_text (filter_of y.year)) }
+    ensures { page.new ≡ page.old ++ filtered_text (filter_of y.year) }
 {
     let f = filter::filter_sound(y);
     match f.answer {
-        Answer::Settled(n) => with_year(page, b"SETTLED", n, &f.year),
-        Answer::Open(n) => with_year(page, b"OPEN", n, &f.year),
+        Answer::Settled(n) => with_year(page, b"SETTLED", n, &SoundYear { year: f.year }),
+        Answer::Open(n) => with_year(page, b"OPEN", n, &SoundYear { year: f.year }),
         Answer::NoPlan(rule, n) => with_pair(page, b"NOPLAN", rule.number(), n),
         Answer::Unsound => with_pair(page, b"REFUSED", UNSOUND, 0),
     }
@@ -104,7 +101,7 @@ fn received(page: &mut Page, list: &[u8])
     requires { Room page.old (listing_of list.now) }
     ensures { page.new ≡ page.old ++ listing_of list.now }
 {
-    match records::read(list) {
+    match records::read_sound(list) {
         Ok(year) => filtered(page, year),
         Err(refusal) => {
             let number = records::fault_number(refusal.fault);

@@ -4,11 +4,10 @@
 mod rounds;
 
 ghost use Rattle.std.specs.Prelude.{◌≡◌};
-ghost use Rattle.year.specs.Sound.{Sound};
 ghost use Rattle.filter.specs.Filter.{filter_of};
 
 use rules::Rule;
-use year::Year;
+use year::{SoundYear, Year};
 
 // How a filtering ended: settled or open with the number of rounds, no plan with the rule and the round that found it, or refusal 8.
 #[derive(Clone, Copy, PartialEq, Eq)]
@@ -26,9 +25,8 @@ pub struct Filtered {
 }
 
 // Filters a year that is known to be sound. Where there is no plan, it hands back the year it was given.
-pub fn filter_sound(y: Year) -> Filtered
-    requires { Sound y }
-    ensures { result ≡ filter_of y }
+pub fn filter_sound(y: SoundYear) -> Filtered
+    ensures { result ≡ filter_of y.year }
 {
     rounds::run(y)
 }
@@ -37,11 +35,11 @@ pub fn filter_sound(y: Year) -> Filtered
 pub fn filter(y: Year) -> Filtered
     ensures { result ≡ filter_of y }
 {
-    if !y.is_sound() {
-        return Filtered {
+    match y.sound() {
+        Some(sound) => filter_sound(sound),
+        None => Filtered {
             answer: Answer::Unsound,
             year: y,
-        };
+        },
     }
-    filter_sound(y)
 }

@@ -1,7 +1,6 @@
 // One round in two halves, and rounds in a row.
 ghost use Rattle.std.specs.Prelude.{◌≡◌, ℕ, ◌≤◌, ◌<◌, IfSome, Some, get_or, length};
 ghost use Rattle.year.specs.Sums.{all_credits};
-ghost use Rattle.year.specs.Sound.{Sound};
 ghost use Rattle.orders.specs.Orders.{orders_in, orders_of};
 ghost use Rattle.rules.specs.Round.{round};
 ghost use Rattle.rules.specs.Step.{live};
@@ -13,7 +12,7 @@ use crate::{Answer, Filtered};
 use frame::State;
 use orders::Orders;
 use rules::Rule;
-use year::{Credits, Year};
+use year::{Credits, SoundYear, Year};
 
 // Rules 1 to 5 in order, up to one that finds no plan.
 fn first_half(s: &mut State, all: Credits) -> Result<(), Rule>
@@ -63,37 +62,36 @@ fn orders_kept(kept: &mut Option<Orders>, weight: &[u32], n: usize) -> Orders
 }
 
 // The year of a state, with the weights of y, which it was lent.
-fn year_in(s: &State, y: &Year) -> Year
-    requires { s.now.weight.now ≡ y.now.weight }
-    ensures { result ≡ year_in s.now }
+fn year_in(s: &State, y: &SoundYear) -> SoundYear
+    requires { s.now.weight.now ≡ y.now.year.weight }
+    ensures { result.year ≡ year_in s.now }
 {
-    Year {
+    let year = Year {
         terms: s.terms,
         courses: s.courses,
         term: s.term,
-        weight: y.weight,
+        weight: y.year.weight,
         list: s.list,
         sums: s.sums,
-    }
+    };
+    SoundYear { year }
 }
 
 // The answer of a year at rest after n rounds.
-fn at_rest(z: &Year, n: u32) -> Answer
-    requires { Sound z.now }
-    ensures { result ≡ at_rest z.now n }
+fn at_rest(z: &SoundYear, n: u32) -> Answer
+    ensures { result ≡ at_rest z.now.year n }
 {
-    if totals::all_placed(*z) {
+    if totals::all_placed(z) {
         return Answer::Settled(n);
     }
     Answer::Open(n)
 }
 
 // Rounds until one alters nothing or finds no plan.
-pub fn run(y: Year) -> Filtered
-    requires { Sound y }
-    ensures { result ≡ rounds_from 1025985 y y 0 }
+pub fn run(y: SoundYear) -> Filtered
+    ensures { result ≡ rounds_from 1025985 y.year y.year 0 }
 {
-    let all = totals::all_credits(y);
+    let all = totals::all_credits(&y);
     let mut kept = None;
     let mut s = State::new(&y);
     let mut n: u32 = 0;
@@ -101,12 +99,18 @@ pub fn run(y: Year) -> Filtered
         n += 1;
         if let Err(rule) = round(&mut s, all, &mut kept) {
             let answer = Answer::NoPlan(rule, n);
-            return Filtered { answer, year: y };
+            return Filtered {
+                answer,
+                year: y.year,
+            };
         }
         if !s.altered {
             let z = year_in(&s, &y);
             let answer = at_rest(&z, n);
-            return Filtered { answer, year: z };
+            return Filtered {
+                answer,
+                year: z.year,
+            };
         }
         s.begin_round();
     }

@@ -35,22 +35,24 @@ only_then x y z a b = record { narrower = narrower_then x y z a.narrower b.narro
 abbrev pub OnBounds : (Year → ℕ → Step) → Type 0
 OnBounds rule = (y : Year) (j : ℕ) → Sound y → j < y.terms → (o : Outcome) × (put y j o ≡ rule y j)
 
-module _ (rule : Year → ℕ → Step) (narrows : AtTerms Narrows rule) (on-bounds : OnBounds rule) where
-  -- one term more
-  only_next : (y z : Year) (k : ℕ) → BoundsOnly y z → k < z.terms → BoundsOnly y (rule z k).year
-  only_next y z k b h =
-      let e = (on-bounds z k b.narrower.sound h).1 in
-      record {
-        narrower = narrower_then y z (rule z k).year b.narrower (narrows z k b.narrower.sound h).year;
-        list_same = ap (λ (t : Step). t.year.list) (sym e) ∙ b.list_same;
-        sums_same = ap (λ (t : Step). t.year.sums) (sym e) ∙ b.sums_same;
-      }
+module _ (rule : Year → ℕ → Step) (narrows : AtTerms Narrows rule) where
+  -- one term more, by an outcome there
+  pub only_next : (y z : Year) (k : ℕ) (o : Outcome) → put z k o ≡ rule z k → BoundsOnly y z → k < z.terms → BoundsOnly y (rule z k).year
+  only_next y z k o e b h = record {
+    narrower = narrower_then y z (rule z k).year b.narrower (narrows z k b.narrower.sound h).year;
+    list_same = ap (λ (t : Step). t.year.list) (sym e) ∙ b.list_same;
+    sums_same = ap (λ (t : Step). t.year.sums) (sym e) ∙ b.sums_same;
+  }
 
+module _ (rule : Year → ℕ → Step) (narrows : AtTerms Narrows rule) (on-bounds : OnBounds rule) where
   -- over the first n terms
   pub only_over : (s : Step) → Sound s.year → (n : ℕ) → n ≤ s.year.terms → BoundsOnly s.year (over_to rule s n).year
   only_over s a n h =
       fold_keeps goes (then rule) s (λ z. BoundsOnly s.year z.year) n
-      (λ z k l e b. only_next s.year z.year k b (omega (arith, b.narrower.terms_same)))
+      (λ z k l e b.
+      let m : k < z.year.terms = omega (arith, b.narrower.terms_same) in
+      let o = on-bounds z.year k b.narrower.sound m in
+      only_next rule narrows s.year z.year k o.0 o.1 b m)
       (only_self s.year a)
 
   -- over all terms, where it goes on

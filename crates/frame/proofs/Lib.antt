@@ -4,5 +4,6 @@ pub mod StateLaws
 pub mod TermsAt
 pub mod VerdictLaws
 pub mod BoundsOnly
+pub mod BoundsOver
 pub mod Moves
 pub mod ToldLaws

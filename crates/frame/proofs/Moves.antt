@@ -11,7 +11,7 @@ use Rattle.theory.specs.Choice.{choose}
 use Rattle.theory.proofs.ChoiceLaws.{choose_case}
 use Rattle.theory.proofs.TestLaws.{or_false}
 use Rattle.year.specs.Year.{zero_term, term_at}
-use Rattle.year.specs.Bound.{bound_of, tightened}
+use Rattle.year.specs.Bound.{Tight, bound_of, tightened}
 use Rattle.year.specs.Within.{within}
 use Rattle.year.specs.Doors.{with_term}
 use Rattle.year.specs.Sound.{TermSound}
@@ -20,7 +20,6 @@ use Rattle.year.specs.declared.Quantity.TheVariants.{Credits, Counts}
 use Rattle.year.specs.declared.Side.{Side}
 use Rattle.year.specs.declared.Side.TheVariants.{Low, High}
 use Rattle.year.specs.declared.Term.{Term}
-use Rattle.year.specs.declared.Tight.{Tight}
 use Rattle.year.specs.declared.Year.{Year}
 use Rattle.year.proofs.BoundLaws.{tight_same, at_once, at_once_lem, within_raise, within_lower}
 use Rattle.year.proofs.DoorLaws.{term_same}

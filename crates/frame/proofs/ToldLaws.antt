@@ -7,19 +7,20 @@ use native.Mathlib.Omega.{arith}
 use lib.Dec.{eqb}
 use lib.ListN.{set}
 use borrow.Author.Tests.{ne_eqb, eqb-true}
-use Rattle.std.specs.Prelude.{Option, Some, None, Result, Ok, Err}
+use Rattle.std.specs.Prelude.{Option, Some, None, Result, Ok, Err, MatchResult, IsErrAnd}
+use Rattle.std.proofs.lemmas.Result.{err_from_is_err_and}
 use Rattle.theory.specs.Choice.{choose}
 use Rattle.theory.proofs.ChoiceLaws.{choose_case}
 use Rattle.theory.proofs.TestLaws.{or_false}
 use Rattle.year.specs.Year.{term_at}
-use Rattle.year.specs.Bound.{tightened}
+use Rattle.year.specs.Bound.{Tight, tightened, moved_of}
 use Rattle.year.specs.Within.{within}
 use Rattle.year.specs.Doors.{with_term}
 use Rattle.year.specs.Sound.{TermSound}
+use Rattle.year.specs.declared.Crossed.{Crossed}
 use Rattle.year.specs.declared.Quantity.{Quantity}
 use Rattle.year.specs.declared.Side.TheVariants.{Low, High}
 use Rattle.year.specs.declared.Term.{Term}
-use Rattle.year.specs.declared.Tight.{Tight}
 use Rattle.year.specs.declared.Year.{Year}
 use Rattle.year.proofs.BoundLaws.{tight_same}
 use Rattle.rules.specs.Step.{Step, step, live, dead, joined, next}
@@ -36,6 +37,25 @@ use Rattle.frame.proofs.Moves.{own_term}
 -- no plan, by rule r
 pub told_dead : (r : Rule) (t : Term) → Err r ≡ told (outcome_of t false (rule_number r))
 told_dead r t = rw (ne_eqb (rule_number r) 0 (omega (arith, number_within r)), named_number r) refl
+
+-- the rule r that the code tells of the bounds that w tells, unless it finds no plan itself
+abbrev pub named_by : Rule → Result (Option Term) Crossed → Result (Option Term) Rule
+named_by r (Ok m) = Ok m
+named_by r (Err c) = Err r
+
+-- it is w with its error under the rule
+pub named_map : (r : Rule) (w : Result (Option Term) Crossed) (m : Result (Option Term) Rule) (P : Crossed → Rule → Type 0)
+    → MatchResult w (λ x. m ≡ Ok x) (λ e. IsErrAnd m (P e)) → ((e : Crossed) (d : Rule) → P e d → d ≡ r) → m ≡ named_by r w
+named_map r (Ok x) m P h k = h
+named_map r (Err e) m P h k = let p = err_from_is_err_and m h in p.1 ∙ ap Err (k e p.0 p.2)
+
+pub told_moved : (r : Rule) (t : Term) (x : Tight) → named_by r (moved_of x) ≡ told (outcome (rule_number r) false t x)
+unfolding outcome
+told_moved r t x = go x.crossed x.altered
+  where
+    go : (c a : Bool) → named_by r (choose c (Err (record {})) (Ok (choose a (Some x.term) None))) ≡ told (choose c (outcome_of t false (rule_number r)) (outcome_of x.term a 0))
+    go true a = told_dead r t
+    go false a = refl
 
 -- bounds within the sizes
 pub told_fits : (o : Outcome) (w : Result (Option Term) Rule) → w ≡ told o → TermSound o.term → Fits w

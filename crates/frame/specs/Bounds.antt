@@ -5,7 +5,7 @@ use Rattle.year.specs.Year.{zero_term}
 use Rattle.year.specs.Doors.{with_term}
 use Rattle.year.specs.Sound.{TermSound}
 use Rattle.year.specs.declared.Term.{Term}
-use Rattle.year.specs.declared.Tight.{Tight}
+use Rattle.year.specs.Bound.{Tight}
 use Rattle.year.specs.declared.Year.{Year}
 use Rattle.rules.specs.Step.{Step, step, live, dead}
 use Rattle.rules.specs.RuleNumbers.{rule_number, rule_named}

@@ -6,11 +6,12 @@ pub mod verdicts;
 ghost use Rattle.std.specs.Prelude.{◌≡◌};
 ghost use Rattle.rules.specs.RuleNumbers.{rule_number};
 ghost use Rattle.frame.specs.Bounds.{outcome, told};
+ghost use Rattle.year.specs.Bound.{Tight, moved_of};
 ghost use Rattle.year.specs.Sound.{Sound};
 ghost use Rattle.year.specs.declared.Term.{Term as TermValue};
 
 use rules::Rule;
-use year::{Sums, Term, Tight, Year};
+use year::{Crossed, SoundYear, Sums, Term, Year};
 
 // A sound year on its way through the rules, and whether something was altered. It owns all but the weights, which never change.
 // Its fields are read where they stand, and written by its methods alone. No rule has found that it has no plan.
@@ -33,10 +34,10 @@ impl<'a> State<'a> {
     ghost use Rattle.frame.specs.State.{year_in, step_in, step_of};
 
     // A sound year, before the rules.
-    pub fn new(y: &'a Year) -> State<'a>
-        requires { Sound y.now }
-        ensures { step_in result ≡ live y.now }
+    pub fn new(y: &'a SoundYear) -> State<'a>
+        ensures { step_in result ≡ live y.now.year }
     {
+        let y = &y.year;
         State {
             terms: y.terms,
             courses: y.courses,
@@ -69,13 +70,17 @@ impl<'a> State<'a> {
     }
 }
 
-// What a rule makes of a term by the tighter bounds w: the bounds that it gets, if they are others. It has no plan if they cross
-// or the rule itself fails.
-pub fn outcome_of(rule: Rule, fails: bool, w: Tight) -> Result<Option<Term>, Rule>
-    ensures { (t : TermValue) → result ≡ told (outcome (rule_number rule) fails t w) }
+// What a rule makes of a term by the tighter bounds that w tells: the bounds that it gets, if they are others. It has no plan if
+// they cross or the rule itself fails.
+pub fn outcome_of(
+    rule: Rule,
+    fails: bool,
+    w: Result<Option<Term>, Crossed>,
+) -> Result<Option<Term>, Rule>
+    ensures { (t : TermValue) (x : Tight) → w ≡ moved_of x → result ≡ told (outcome (rule_number rule) fails t x) }
 {
-    if fails || w.crossed {
+    if fails {
         return Err(rule);
     }
-    Ok(w.altered.then_some(w.term))
+    w.map_err(|_| rule)
 }

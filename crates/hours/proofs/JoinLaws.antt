@@ -18,7 +18,9 @@ use Rattle.year.specs.Sound.{Sound}
 use Rattle.year.specs.Computing.{computing as computingYear}
 use Rattle.year.specs.declared.Term.{Term}
 use Rattle.year.specs.declared.Course.{Course}
+use Rattle.year.specs.SoundYear.{answer_inside}
 use Rattle.year.specs.declared.Year.{Year}
+use Rattle.year.specs.declared.SoundYear.{SoundYear}
 use Rattle.records.specs.Bytes.{letter_at}
 use Rattle.std.specs.Prelude.{Result, Ok, Err, MatchResult}
 use Rattle.records.specs.declared.Refusal.{Refusal}
@@ -170,13 +172,13 @@ module _ (t h : List ℕ) where
   join_in_terms q e = rw e refl
 
 -- what reading the hours list gave, each refusal under that list
-pub listed_under : (r : Result Year Refusal) (m : Result Year JoiningRefusal) (P : Refusal → Type 0) → MatchResult r (λ y. m ≡ Ok y) P → ((q : Refusal) → r ≡ Err q → m ≡ Err (InHours q)) → m ≡ in_hours r
-listed_under (Ok y) m P h each = h
-listed_under (Err q) m P h each = each q refl
+pub listed_under : (r : Result SoundYear Refusal) (m : Result SoundYear JoiningRefusal) (P : Refusal → Type 0) → MatchResult r (λ y. m ≡ Ok y) P → ((q : Refusal) → r ≡ Err q → m ≡ Err (InHours q)) → answer_inside m ≡ in_hours (answer_inside r)
+listed_under (Ok y) m P h each = ap answer_inside h
+listed_under (Err q) m P h each = ap answer_inside (each q refl)
 
--- what the hours stand behind is sound, with no course
-pub front_sound : (t : List ℕ) (y : Year) → term_list t ≡ done y → Sound y × (y.courses ≡ 0)
-front_sound t y e = (terms_sound t y e, (terms_done t y e).0.no_course)
+-- what the hours stand behind has no course
+pub front_empty : (t : List ℕ) (y : Year) → term_list t ≡ done y → y.courses ≡ 0
+front_empty t y e = (terms_done t y e).0.no_course
 
 -- how a joining ends: refused in the terms' list, or as the hours list behind its year
 module _ (t h : List ℕ) where

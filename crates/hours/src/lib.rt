@@ -5,10 +5,11 @@ mod entries;
 mod lists;
 
 ghost use Rattle.std.specs.Prelude.{◌≡◌};
+ghost use Rattle.year.specs.SoundYear.{answer_inside};
 ghost use Rattle.hours.specs.Joining.{join_of};
 
 use records::Refusal;
-use year::Year;
+use year::{SoundYear, Year};
 
 // The editions of the handbook by which hours are weighed.
 #[derive(Clone, Copy, PartialEq, Eq)]
@@ -34,9 +35,16 @@ pub const LETTER: u8 = 72;
 pub const LONGEST: usize = Year::COURSES * records::RECORD;
 
 // The year of a list of terms and a list of hours, from any two byte strings. The terms are judged first, all of them.
-pub fn join(terms: &[u8], hours: &[u8]) -> Result<Year, JoiningRefusal>
-    ensures { result ≡ join_of terms.now hours.now }
+pub fn join_sound(terms: &[u8], hours: &[u8]) -> Result<SoundYear, JoiningRefusal>
+    ensures { answer_inside result ≡ join_of terms.now hours.now }
 {
     let front = lists::read_terms(terms).map_err(JoiningRefusal::InTerms)?;
     lists::read_hours(front, hours).map_err(JoiningRefusal::InHours)
+}
+
+// The same as a plain year.
+pub fn join(terms: &[u8], hours: &[u8]) -> Result<Year, JoiningRefusal>
+    ensures { result ≡ join_of terms.now hours.now }
+{
+    Ok(join_sound(terms, hours)?.year)
 }

@@ -14,7 +14,7 @@ use Rattle.theory.proofs.TestLaws.{or_false}
 use Rattle.theory.specs.Bits.{has}
 use Rattle.theory.proofs.BitLaws.{has_power}
 use Rattle.year.specs.Year.{term_at, course_at, list, lists, is_fixed}
-use Rattle.year.specs.Bound.{bound_of, bound, opposite, Keeps, beyond, tightened}
+use Rattle.year.specs.Bound.{Tight, bound_of, bound, opposite, Keeps, beyond, tightened}
 use Rattle.year.specs.Doors.{with_sums, with_list, with_term, placed, struck}
 use Rattle.year.specs.Narrow.{answered, checked, no_such, placing, barring, place_of, bar_of, moving, tighten_of}
 use Rattle.year.specs.Plans.{Placing, put_in, Plan}
@@ -23,7 +23,6 @@ use Rattle.year.specs.Numbers.{narrowing_number}
 use Rattle.year.specs.declared.Quantity.{Quantity}
 use Rattle.year.specs.declared.Side.{Side}
 use Rattle.year.specs.declared.Term.{Term}
-use Rattle.year.specs.declared.Tight.{Tight}
 use Rattle.year.specs.declared.Year.{Year}
 use Rattle.year.specs.declared.NarrowingRefusal.{NarrowingRefusal}
 use Rattle.year.specs.declared.NarrowingRefusal.TheVariants.{Unsound, Missing, Outside, Crossing}

@@ -1,11 +1,10 @@
 // The records of a sound year laid into a lent buffer, one behind the other.
 ghost use Rattle.std.specs.Prelude.{◌≡◌, ◌+◌, ◌*◌, ◌≤◌, ◌<◌, length};
-ghost use Rattle.year.specs.Sound.{Sound};
 ghost use Rattle.records.specs.Writing.{term_bytes, course_bytes, term_block, course_block, joined};
 ghost use Rattle.records.specs.Laid.{laid};
 
 use crate::{COURSE_LETTER, RECORD, TERM_LETTER};
-use year::{Course, Term, Year, pairs};
+use year::{Course, SoundYear, Term, pairs};
 
 // A term's record, and a course's.
 fn term_bytes(number: usize, t: Term) -> [u8; RECORD]
@@ -45,24 +44,22 @@ fn put(buf: &mut [u8], at: usize, r: [u8; RECORD])
 }
 
 // The terms' records, at the front.
-pub fn put_terms(y: Year, buf: &mut [u8])
-    requires sound { Sound y }
-    requires room { y.terms * 16 ≤ length buf.old }
-    ensures { buf.new ≡ laid buf.old 0 (joined (term_block y) y.terms) }
+pub fn put_terms(y: &SoundYear, buf: &mut [u8])
+    requires room { y.now.year.terms * 16 ≤ length buf.old }
+    ensures { buf.new ≡ laid buf.old 0 (joined (term_block y.now.year) y.now.year.terms) }
 {
-    for j in 0..y.terms {
-        put(buf, j * RECORD, term_bytes(j, y.term[j]));
+    for j in 0..y.year.terms {
+        put(buf, j * RECORD, term_bytes(j, y.year.term[j]));
     }
 }
 
 // The courses' records, behind the terms'.
-pub fn put_courses(y: Year, buf: &mut [u8])
-    requires sound { Sound y }
-    requires room { (y.terms + y.courses) * 16 ≤ length buf.old }
-    ensures { buf.new ≡ laid buf.old (y.terms * 16) (joined (course_block y) y.courses) }
+pub fn put_courses(y: &SoundYear, buf: &mut [u8])
+    requires room { (y.now.year.terms + y.now.year.courses) * 16 ≤ length buf.old }
+    ensures { buf.new ≡ laid buf.old (y.now.year.terms * 16) (joined (course_block y.now.year) y.now.year.courses) }
 {
-    for i in 0..y.courses {
-        let c = pairs::course_of(y.weight[i], y.list[i]);
-        put(buf, (y.terms + i) * RECORD, course_bytes(i, c));
+    for i in 0..y.year.courses {
+        let c = pairs::course_of(y.year.weight[i], y.year.list[i]);
+        put(buf, (y.year.terms + i) * RECORD, course_bytes(i, c));
     }
 }

@@ -7,12 +7,12 @@ pub mod entries;
 
 ghost use Rattle.std.specs.Prelude.{◌≡◌, ℕ, ◌+◌, ◌*◌, ◌^◌, ◌≤◌, ◌<◌, length, get_or};
 ghost use Rattle.year.specs.Doors.{with_sums};
-ghost use Rattle.year.specs.Sound.{Sound};
+ghost use Rattle.year.specs.SoundYear.{answer_inside};
 ghost use Rattle.records.specs.Numbers.{fault_number};
 ghost use Rattle.records.specs.Reading.{blank_year, add_term, add_course, refusal, bad_length, read_list};
 ghost use Rattle.records.specs.Writing.{write_answer, written};
 
-use year::{Course, Term, Year, sound, summing};
+use year::{Course, SoundYear, Term, Year, summing};
 
 // What is wrong with a byte string: the paper's refusals 1 to 7.
 #[derive(Clone, Copy, PartialEq, Eq)]
@@ -123,8 +123,8 @@ pub fn bad_length(n: usize) -> bool
 }
 
 // Reads a year from any byte string. Terms come first, and one at least; courses are asked for first, since a list has more of them.
-pub fn read(list: &[u8]) -> Result<Year, Refusal>
-    ensures { result ≡ read_list list.now }
+pub fn read_sound(list: &[u8]) -> Result<SoundYear, Refusal>
+    ensures { answer_inside result ≡ read_list list.now }
 {
     if bad_length(list.len()) {
         return Err(Fault::Length.at(0));
@@ -143,14 +143,20 @@ pub fn read(list: &[u8]) -> Result<Year, Refusal>
         }
     }
     sum_up(&mut y);
-    Ok(y)
+    Ok(SoundYear { year: y })
+}
+
+// The same as a plain year.
+pub fn read(list: &[u8]) -> Result<Year, Refusal>
+    ensures { result ≡ read_list list.now }
+{
+    Ok(read_sound(list)?.year)
 }
 
 // Writes the records of a year that is known to be sound into the front of a buffer that is known to have room for them.
-pub fn write_sound(y: Year, buf: &mut [u8])
-    requires sound { Sound y }
-    requires room { (y.terms + y.courses) * 16 ≤ length buf.old }
-    ensures { buf.new ≡ written y buf.old }
+pub fn write_sound(y: &SoundYear, buf: &mut [u8])
+    requires room { (y.now.year.terms + y.now.year.courses) * 16 ≤ length buf.old }
+    ensures { buf.new ≡ written y.now.year buf.old }
 {
     blocks::put_terms(y, buf);
     blocks::put_courses(y, buf);
@@ -161,12 +167,12 @@ pub fn write(y: Year, buf: &mut [u8]) -> Result<(), WritingRefusal>
     ensures answer { result ≡ write_answer y (length buf.old) }
     ensures buf_after { buf.new ≡ written y buf.old }
 {
-    if !sound::is_sound(y) {
+    let Some(y) = y.sound() else {
         return Err(WritingRefusal::Unsound);
-    }
-    if buf.len() < (y.terms + y.courses) * RECORD {
+    };
+    if buf.len() < (y.year.terms + y.year.courses) * RECORD {
         return Err(WritingRefusal::Short);
     }
-    write_sound(y, buf);
+    write_sound(&y, buf);
     Ok(())
 }

@@ -10,5 +10,5 @@ pub fn tested_filter(list: &[u8], out: &mut [u8]) -> u64
     ensures value { result ≡ filter_code list.now (length out.old) }
     ensures out_after { out.new ≡ filter_out list.now out.old }
 {
-    boundary::filter_by(list, filter::filter, out)
+    boundary::filter_by(list, |y| filter::filter(y.year), out)
 }

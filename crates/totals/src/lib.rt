@@ -4,11 +4,10 @@
 pub mod measure;
 
 ghost use Rattle.std.specs.Prelude.{◌≡◌, ◌≤◌};
-ghost use Rattle.year.specs.Sound.{Sound};
 ghost use Rattle.year.specs.SumsOf.{none_open};
 ghost use Rattle.year.specs.Sums.{is_placed, all_placed, all_credits};
 
-use year::{Course, Credits, Sums, Year};
+use year::{Course, Credits, SoundYear, Sums, Year};
 
 // The course has one term.
 pub fn is_placed(c: Course) -> bool
@@ -26,20 +25,18 @@ pub fn none_open(terms: usize, sums: &[Sums; Year::TERMS]) -> bool
 }
 
 // Every course has one term: none is open in any.
-pub fn all_placed(y: Year) -> bool
-    requires { Sound y }
-    ensures { result ≡ all_placed y }
+pub fn all_placed(y: &SoundYear) -> bool
+    ensures { result ≡ all_placed y.now.year }
 {
-    none_open(y.terms, &y.sums)
+    none_open(y.year.terms, &y.year.sums)
 }
 
 // All credits of the year.
-pub fn all_credits(y: Year) -> Credits
-    requires { Sound y }
-    ensures { result.0 ≡ all_credits y }
+pub fn all_credits(y: &SoundYear) -> Credits
+    ensures { result.0 ≡ all_credits y.now.year }
 {
     let mut total = Credits(0);
-    for weight in &y.weight[..y.courses] {
+    for weight in &y.year.weight[..y.year.courses] {
         total.0 += *weight;
     }
     total

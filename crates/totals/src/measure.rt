@@ -3,11 +3,10 @@ ghost use Rattle.std.specs.Prelude.{◌≡◌, ◌*◌, ◌-◌, ◌≤◌};
 ghost use Rattle.theory.specs.Tests.{all};
 ghost use Rattle.theory.specs.Sum.{sum};
 ghost use Rattle.theory.specs.Pairs.{square};
-ghost use Rattle.year.specs.Sound.{Sound};
 ghost use Rattle.year.specs.Sums.{fixed_credits};
 ghost use Rattle.year.specs.Imbalance.{fits, fits_at, imbalance_of};
 
-use year::{Credits, ImbalanceRefusal, Sums, Term, Year};
+use year::{Credits, ImbalanceRefusal, SoundYear, Sums, Term, Year};
 
 // The sums are within the term's bounds.
 fn fits(t: Term, s: Sums) -> bool
@@ -20,13 +19,12 @@ fn fits(t: Term, s: Sums) -> bool
 }
 
 // What is fixed in each term is within its bounds.
-fn all_fit(y: &Year) -> bool
-    requires { Sound y.now }
-    ensures { result ≡ all y.now.terms (fits_at y.now) }
+fn all_fit(y: &SoundYear) -> bool
+    ensures { result ≡ all y.now.year.terms (fits_at y.now.year) }
 {
     let mut good = true;
-    for k in 0..y.terms {
-        good = good & fits(y.term[k], y.sums[k]);
+    for k in 0..y.year.terms {
+        good = good & fits(y.year.term[k], y.year.sums[k]);
     }
     good
 }
@@ -39,15 +37,14 @@ struct Loads {
 }
 
 // What is fixed in the terms of a year.
-fn loads_of(y: &Year) -> Loads
-    requires { Sound y.now }
-    ensures all { result.all.0 ≡ sum y.now.terms (fixed_credits y.now) }
-    ensures squares { result.squares ≡ sum y.now.terms (λ k. square (fixed_credits y.now k)) }
+fn loads_of(y: &SoundYear) -> Loads
+    ensures all { result.all.0 ≡ sum y.now.year.terms (fixed_credits y.now.year) }
+    ensures squares { result.squares ≡ sum y.now.year.terms (λ k. square (fixed_credits y.now.year k)) }
 {
     let mut all = Credits(0);
     let mut squares: u64 = 0;
-    for k in 0..y.terms {
-        let x = y.sums[k].fixed.0;
+    for k in 0..y.year.terms {
+        let x = y.year.sums[k].fixed.0;
         all.0 += x;
         let wide = u64::from(x);
         squares += wide * wide;
@@ -65,22 +62,21 @@ fn difference(terms: usize, l: Loads) -> u64
 }
 
 // The imbalance of a sound year as it stands.
-pub fn imbalance_sound(y: Year) -> Result<u64, ImbalanceRefusal>
-    requires { Sound y }
-    ensures { result ≡ imbalance_of y }
+pub fn imbalance_sound(y: &SoundYear) -> Result<u64, ImbalanceRefusal>
+    ensures { result ≡ imbalance_of y.now.year }
 {
-    if !crate::all_placed(y) || !all_fit(&y) {
+    if !crate::all_placed(y) || !all_fit(y) {
         return Err(ImbalanceRefusal::Unsettled);
     }
-    Ok(difference(y.terms, loads_of(&y)))
+    Ok(difference(y.year.terms, loads_of(y)))
 }
 
 // The imbalance of the year as it stands.
 pub fn imbalance(y: Year) -> Result<u64, ImbalanceRefusal>
     ensures { result ≡ imbalance_of y }
 {
-    if !y.is_sound() {
+    let Some(y) = y.sound() else {
         return Err(ImbalanceRefusal::Unsound);
-    }
-    imbalance_sound(y)
+    };
+    imbalance_sound(&y)
 }

@@ -1,5 +1,5 @@
 -- Rules 6 to 9 over the terms of a state: what each walk begins with, what a turn at a term leaves, and what stays behind a rule.
--- `walk_rule` cites `set_up` and `order_at` for what `by_walk` asks, `walk_turn` where the loop goes on and `walk_stop` where it ends;
+-- `walk_rule` cites `set_up`, `weight_at` and `order_at` for what `by_walk` asks, `walk_turn` where the loop goes on and `walk_stop` where it ends;
 -- rules in a row cite `after` and `asked`.
 use Prim.Native.Nat.{ℕ, ◌+◌, ◌≤◌, ◌<◌}
 use mathlib.Core.Bool.{false}
@@ -122,6 +122,9 @@ module _ (r : WalkRule) (s : State) (j : ℕ) (h : j < s.terms) (z : State) (inv
 
   small : j < 16
   small = omega (arith, s.sound)
+
+  pub weight_at : s.weight.now ≡ z.weight.now
+  weight_at = sym narrower.weight_same
 
   pub order_at : (o : List ℕ) → o ≡ order_of r (year_in s) → o ≡ order_of r (year_in z)
   order_at o is = is ∙ sym (order_same r (year_in s) (year_in z) narrower)

@@ -50,16 +50,26 @@ fn walk_step(w: Walk, c: Course, j: usize, until: Until) -> ControlFlow<Walk, Wa
     })
 }
 
+// A rule and what its walks read: the order of the courses, and their weights, which are the state's.
+// Tried: the weights read out of the state at each term; walks then take up to 2 in 100 instructions more.
+#[derive(Clone, Copy)]
+struct Way<'a> {
+    rule: WalkRule,
+    order: &'a [u8],
+    weight: &'a [u32],
+}
+
 // The walk over the courses of an order.
-fn walked(s: &State, order: &[u8], j: usize, until: Until, begun: Walk) -> Walk
+fn walked(s: &State, way: Way, j: usize, until: Until, begun: Walk) -> Walk
     requires is_term { j < 16 }
     requires begins { (begun.credits.0 ≤ 64000) × (begun.count.0 ≤ 64) }
-    requires fits { (s.now.courses ≤ length order.now) × ((k : ℕ) → k < s.now.courses → get_or order.now k 0 < s.now.courses) }
-    ensures { reached result ≡ walk_over s.now.weight.now s.now.list j until (take s.now.courses order.now) begun }
+    requires weights { way.weight.now ≡ s.now.weight.now }
+    requires fits { (s.now.courses ≤ length way.order.now) × ((k : ℕ) → k < s.now.courses → get_or way.order.now k 0 < s.now.courses) }
+    ensures { reached result ≡ walk_over s.now.weight.now s.now.list j until (take s.now.courses way.entry.order.now) begun }
 {
     let mut w = begun;
-    for i in &order[..s.courses] {
-        let c = pairs::course_in(s.weight, &s.list, usize::from(*i));
+    for i in &way.order[..s.courses] {
+        let c = pairs::course_in(way.weight, &s.list, usize::from(*i));
         if pairs::is_open(c, j) {
             match walk_step(w, c, j, until) {
                 ControlFlow::Break(last) => return last,
@@ -83,6 +93,8 @@ fn begun(spare: [u8; Year::TERMS], u: Sums) -> Walk
 
 // ---- what a rule makes of it
 
+// Two matches: two closures would have to be handed in for each rule, and each would be one of these arms.
+
 // Where the walk of a rule ends.
 fn until(rule: WalkRule, t: Term) -> Until
     ensures { result ≡ until_of rule t }
@@ -103,45 +115,40 @@ fn ended(rule: WalkRule, t: Term, w: Walk) -> Result<Option<Term>, Rule>
         WalkRule::LeastCount => frame::outcome_of(
             Rule::LeastCount,
             w.credits.0 < t.low.0,
-            tighter::counts_within(t, w.count, t.most),
+            tighter::within(t, w.count, t.most),
         ),
         WalkRule::MostCount => frame::outcome_of(
             Rule::MostCount,
             false,
-            tighter::counts_within(t, t.least, w.count),
+            tighter::within(t, t.least, w.count),
         ),
         WalkRule::LeastLoad => frame::outcome_of(
             Rule::LeastLoad,
             w.count.0 < t.least.0,
-            tighter::credits_within(t, w.credits, t.high),
+            tighter::within(t, w.credits, t.high),
         ),
         WalkRule::MostLoad => frame::outcome_of(
             Rule::MostLoad,
             false,
-            tighter::credits_within(t, t.low, w.credits),
+            tighter::within(t, t.low, w.credits),
         ),
     }
 }
 
 // A rule at term j: its walk, which is over at once where no course is open, and what it makes of it.
-fn by_walk(
-    s: &State,
-    rule: WalkRule,
-    order: &[u8],
-    j: usize,
-    spare: [u8; Year::TERMS],
-) -> Result<Option<Term>, Rule>
+fn by_walk(s: &State, way: Way, j: usize, spare: [u8; Year::TERMS]) -> Result<Option<Term>, Rule>
     requires in_range { j < s.now.terms }
-    requires in_order { order.now ≡ order_of rule (year_in s.now) }
+    requires weights { way.weight.now ≡ s.now.weight.now }
+    requires in_order { way.order.now ≡ order_of way.rule (year_in s.now) }
     requires set_up { spare ≡ spares (year_in s.now) }
-    ensures { result ≡ told (walked_at rule (year_in s.now) j) }
+    ensures { result ≡ told (walked_at way.entry.rule (year_in s.now) j) }
 {
     let (t, u) = (s.term[j], s.sums[j]);
     let w = begun(spare, u);
     if u.free.0 == 0 {
-        return ended(rule, t, w);
+        return ended(way.rule, t, w);
     }
-    ended(rule, t, walked(s, order, j, until(rule, t), w))
+    ended(way.rule, t, walked(s, way, j, until(way.rule, t), w))
 }
 
 // A rule over the terms. Each term's walk has its spares set up afresh, from the low counts as they stand by then.
@@ -150,10 +157,16 @@ pub fn walk_rule(s: &mut State, rule: WalkRule, order: &[u8], tallies: Tallies) 
     requires tallied { tallies ≡ tallies_of s.old.sums }
     ensures { step_of s.new result ≡ over_terms (rule_of rule) (step_in s.old) }
 {
+    let weight = s.weight;
+    let way = Way {
+        rule,
+        order,
+        weight,
+    };
     let mut least = spares::low_counts(&s.term);
     for j in 0..s.terms {
         let spare = spares::spares(tallies, least);
-        let outcome = by_walk(s, rule, order, j, spare);
+        let outcome = by_walk(s, way, j, spare);
         s.tighten(j, outcome)?;
         least[j] = s.term[j].least.0 as u8;
     }

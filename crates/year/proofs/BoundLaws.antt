@@ -5,7 +5,10 @@ use mathlib.Core.Path.{◌≡◌, refl, sym, ap, ◌∙◌}
 use native.Mathlib.Omega.{arith}
 use lib.Dec.{ltb}
 use borrow.Author.Tests.{ltb-true, ltb-false, lt-ltb, le-ltb}
-use Rattle.year.specs.Bound.{bound_of, with_bound, opposite, beyond, inner, tightened}
+use Rattle.std.specs.Prelude.{Some, None, Ok, Err}
+use Rattle.std.specs.Bool.{then_some}
+use Rattle.theory.specs.Choice.{choose}
+use Rattle.year.specs.Bound.{Tight, bound_of, with_bound, opposite, beyond, inner, tightened, moved_of}
 use Rattle.year.specs.Within.{within}
 use Rattle.year.specs.Sound.{TermSound}
 use Rattle.year.specs.declared.Quantity.{Quantity}
@@ -13,7 +16,6 @@ use Rattle.year.specs.declared.Quantity.TheVariants.{Credits, Counts}
 use Rattle.year.specs.declared.Side.{Side}
 use Rattle.year.specs.declared.Side.TheVariants.{Low, High}
 use Rattle.year.specs.declared.Term.{Term}
-use Rattle.year.specs.declared.Tight.{Tight}
 
 -- ---- a bound that is replaced
 
@@ -112,6 +114,25 @@ pub at_once_lem : (q : Quantity) (t : Term) (a b : ℕ) → at_once q t a b ≡ 
 unfolding within tightened
 at_once_lem Credits t a b = tight_as_lem _ _ _ _ _ _ refl refl (sym (crossed_by_both t.low.0 t.high.0 a b))
 at_once_lem Counts t a b = tight_as_lem _ _ _ _ _ _ refl refl (sym (crossed_by_both t.least.0 t.most.0 a b))
+
+-- what is told of a move, by its two marks
+tell_crossed : (w : Tight) → w.crossed ≡ true → Err (record {}) ≡ moved_of w
+tell_crossed w e = rw e refl
+
+tell_moved : (w : Tight) → w.crossed ≡ false → Ok (then_some w.altered w.term) ≡ moved_of w
+tell_moved w e = rw e (ap Ok (some_if w.altered))
+  where
+    some_if : (a : Bool) → then_some a w.term ≡ choose a (Some w.term) None
+    some_if true = refl
+    some_if false = refl
+
+-- and of both at once, where the new bounds cross and where they do not
+pub told_crossed : (q : Quantity) (t : Term) (a b : ℕ) → min (bound_of High q t) b < max (bound_of Low q t) a → Err (record {}) ≡ moved_of (within q t a b)
+told_crossed q t a b l = tell_crossed (at_once q t a b) (lt-ltb _ _ l) ∙ ap moved_of (at_once_lem q t a b)
+
+pub told_moved : (q : Quantity) (t : Term) (a b : ℕ) → max (bound_of Low q t) a ≤ min (bound_of High q t) b
+    → Ok (then_some (at_once q t a b).altered (at_once q t a b).term) ≡ moved_of (within q t a b)
+told_moved q t a b l = tell_moved (at_once q t a b) (le-ltb _ _ l) ∙ ap moved_of (at_once_lem q t a b)
 
 module _ (low high n : ℕ) where
   least : max low low ≡ low

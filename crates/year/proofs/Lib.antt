@@ -1,5 +1,6 @@
 -- Laws about a year's definitions, for the proofs here and above.
 pub mod SoundLaws
+pub mod SoundYearLaws
 pub mod BoundLaws
 pub mod CheckLaws
 pub mod DoorLaws

@@ -1,12 +1,13 @@
 -- A bound is a side of a quantity. Tightening one bound of a term is the one move that narrowings and rules on bounds make.
-use Rattle.std.specs.Prelude.{ℕ, ◌≤◌, max, min, Bool, ltb}
+use Rattle.std.specs.Prelude.{ℕ, ◌≤◌, max, min, Bool, ltb, Option, Some, None, Result, Ok, Err}
+use Rattle.theory.specs.Choice.{choose}
 use Rattle.year.specs.Year.{term_of, term_at}
+use Rattle.year.specs.declared.Crossed.{Crossed}
 use Rattle.year.specs.declared.Quantity.{Quantity}
 use Rattle.year.specs.declared.Quantity.TheVariants.{Credits, Counts}
 use Rattle.year.specs.declared.Side.{Side}
 use Rattle.year.specs.declared.Side.TheVariants.{Low, High}
 use Rattle.year.specs.declared.Term.{Term}
-use Rattle.year.specs.declared.Tight.{Tight}
 use Rattle.year.specs.declared.Year.{Year}
 
 -- ---- a term's four bounds
@@ -56,6 +57,12 @@ inner High n x = min x n
 
 -- ---- the move
 
+-- a term after its bounds were made tighter: whether one moved, and whether a pair crossed
+pub record Tight : Type 0 where
+  pub term : Term
+  pub altered : Bool
+  pub crossed : Bool
+
 -- a low bound raised to n, or a high one lowered to n. It never loosens, and beyond its opposite it has crossed
 unfoldable pub tightened : Side → Quantity → Term → ℕ → Tight
 tightened s q t n = record {
@@ -63,3 +70,7 @@ tightened s q t n = record {
   altered = beyond s n (bound_of s q t);
   crossed = beyond s (inner s n (bound_of s q t)) (bound_of (opposite s) q t);
 }
+
+-- what is told of it: that the pair would cross, or the tighter term if a bound moved
+abbrev pub moved_of : Tight → Result (Option Term) Crossed
+moved_of w = choose w.crossed (Err (record {})) (Ok (choose w.altered (Some w.term) None))

@@ -5,7 +5,7 @@ use Rattle.theory.specs.Pairs.{square}
 use Rattle.theory.specs.Tests.{all, any}
 use Rattle.theory.specs.Order.{keep}
 use Rattle.year.specs.Year.{term_of, course_of, zero_term, zero_course, course_at}
-use Rattle.year.specs.Bound.{tightened}
+use Rattle.year.specs.Bound.{Tight, tightened}
 use Rattle.year.specs.Doors.{empty_year, with_sums, placed, struck, with_list, with_term}
 use Rattle.year.specs.ByHand.{summed_of, unsummed, by_hand}
 use Rattle.year.specs.Computing.{computing}
@@ -19,7 +19,6 @@ use Rattle.year.specs.declared.Course.{Course}
 use Rattle.year.specs.declared.Quantity.TheVariants.{Credits, Counts}
 use Rattle.year.specs.declared.Side.TheVariants.{Low, High}
 use Rattle.year.specs.declared.Sums.{Sums}
-use Rattle.year.specs.declared.Tight.{Tight}
 use Rattle.year.specs.declared.Year.{Year}
 use Rattle.year.specs.declared.NarrowingRefusal.TheVariants.{Unsound, Missing, Outside, Crossing}
 use Rattle.year.specs.declared.ImbalanceRefusal.TheVariants as imbalance

@@ -3,6 +3,7 @@ pub mod Year
 pub mod Bound
 pub mod Sums
 pub mod Sound
+pub mod SoundYear
 pub mod Doors
 pub mod ByHand
 pub mod Narrow

@@ -2,14 +2,13 @@
 use Rattle.std.specs.Prelude.{ℕ, ◌^◌, Bool, false, ◌||◌, eqb, leb, ltb, Result, Ok, Err}
 use Rattle.theory.specs.Choice.{choose}
 use Rattle.year.specs.Year.{term_at, course_at, list, lists}
-use Rattle.year.specs.Bound.{largest_bound, tightened}
+use Rattle.year.specs.Bound.{Tight, largest_bound, tightened}
 use Rattle.year.specs.Doors.{with_term, placed, struck}
 use Rattle.year.specs.Sound.{is_sound}
 use Rattle.year.specs.declared.Quantity.{Quantity}
 use Rattle.year.specs.declared.Quantity.TheVariants.{Credits, Counts}
 use Rattle.year.specs.declared.Side.{Side}
 use Rattle.year.specs.declared.Side.TheVariants.{Low, High}
-use Rattle.year.specs.declared.Tight.{Tight}
 use Rattle.year.specs.declared.Year.{Year}
 use Rattle.year.specs.declared.NarrowingRefusal.{NarrowingRefusal}
 use Rattle.year.specs.declared.NarrowingRefusal.TheVariants.{Unsound, Missing, Outside, Crossing}

@@ -1,10 +1,9 @@
 -- Inner, not to be believed: two moves of a term, as the code makes them at once: a low bound raised, then its high bound lowered.
 use Rattle.std.specs.Prelude.{ℕ, ◌||◌}
-use Rattle.year.specs.Bound.{tightened}
+use Rattle.year.specs.Bound.{Tight, tightened}
 use Rattle.year.specs.declared.Quantity.{Quantity}
 use Rattle.year.specs.declared.Side.TheVariants.{Low, High}
 use Rattle.year.specs.declared.Term.{Term}
-use Rattle.year.specs.declared.Tight.{Tight}
 
 -- one move, and another from the term that it left
 abbrev pub then_tight : Tight → Tight → Tight

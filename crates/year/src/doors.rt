@@ -2,12 +2,11 @@
 // no other way.
 ghost use Rattle.std.specs.Prelude.{◌≡◌, true, ◌<◌, ◌^◌};
 ghost use Rattle.theory.specs.Bits.{has};
-ghost use Rattle.theory.specs.Choice.{choose};
 ghost use Rattle.year.specs.Year.{course_at, lists};
 ghost use Rattle.year.specs.Doors.{with_term, with_list, placed, struck};
 ghost use Rattle.year.specs.Sound.{Sound};
 
-use crate::{Tight, Year, pairs, summing};
+use crate::{Term, Year, pairs, summing};
 
 // The list of term j alone.
 pub fn power(j: usize) -> u16
@@ -25,17 +24,16 @@ pub fn lists(list: u16, j: usize) -> bool
     (list >> j) % 2 == 1
 }
 
-// Term j with tighter bounds, where one moved.
-pub fn bound(y: &mut Year, j: usize, w: Tight)
+// Other bounds of term j.
+pub fn bound(y: &mut Year, j: usize, t: Term)
     requires { j < 16 }
-    ensures { y.new ≡ choose w.altered (with_term y.old j w.term) y.old }
+    ensures { y.new ≡ with_term y.old j t }
 {
-    if w.altered {
-        y.term[j] = w.term;
-    }
+    y.term[j] = t;
 }
 
 // Another list of course i, and the sums that this makes.
+// The year and its soundness come apart, here and below: no `&mut SoundYear`, since what is made is sound only if the list is a good one.
 pub fn relist(y: &mut Year, i: usize, list: u16)
     requires sound { Sound y.old }
     requires course_there { i < y.old.courses }

@@ -14,6 +14,7 @@ pub mod tighter;
 
 ghost use Rattle.std.specs.Prelude.{◌≡◌};
 ghost use Rattle.year.specs.Doors.{empty_year};
+ghost use Rattle.year.specs.Sound.{Sound};
 
 // A number of credits. Never compared with a number of courses.
 #[derive(Clone, Copy, Default, PartialEq, Eq)]
@@ -60,6 +61,13 @@ pub struct Year {
     pub sums: [Sums; Year::TERMS],
 }
 
+// A year that is known to be sound: what is made of it needs no test. It is as large as a year, so it is lent where it is read.
+#[derive(Clone, Copy)]
+pub struct SoundYear {
+    pub year: Year,
+    pub ghost sound: { Sound year },
+}
+
 // What a bound is of: a term's credits or the number of its courses. Each has a bound on either side.
 #[derive(Clone, Copy, PartialEq, Eq)]
 pub enum Quantity {
@@ -73,13 +81,9 @@ pub enum Side {
     High,
 }
 
-// A term after its bounds were made tighter: whether one moved, and whether a pair crossed.
-#[derive(Clone, Copy)]
-pub struct Tight {
-    pub term: Term,
-    pub altered: bool,
-    pub crossed: bool,
-}
+// Why a term's bounds are not made tighter: the low one would lie above the high one.
+#[derive(Clone, Copy, PartialEq, Eq)]
+pub struct Crossed;
 
 // Why a narrowing is refused: by 8, 10, 11 or 12.
 #[derive(Clone, Copy, PartialEq, Eq)]

@@ -1,11 +1,10 @@
 // The four narrowings of bounds: methods on the year by value, each with its answer beside the year.
 // A refused one hands back the year as it was given.
 ghost use Rattle.std.specs.Prelude.{◌≡◌};
-ghost use Rattle.year.specs.Year.{term_at};
 ghost use Rattle.year.specs.Narrow.{answered, tighten_of, raise_low_credits_of, lower_high_credits_of, raise_low_count_of, lower_high_count_of};
 
 use crate::tighter::{self, Amount};
-use crate::{Courses, Credits, Narrowed, NarrowingRefusal, Side, Term, Year, checks, doors};
+use crate::{Courses, Credits, Crossed, Narrowed, NarrowingRefusal, Side, Year, checks, doors};
 
 impl Year {
     // Raises the low credits of term j to v.
@@ -44,17 +43,13 @@ impl Year {
     fn try_tighten<A: Amount>(&mut self, side: Side, j: usize, v: A) -> Result<(), NarrowingRefusal>
         ensures { answered result self.new ≡ tighten_of side A.quantity self.old j (A.number v) }
     {
-        let tight = tighter::tighten(side, self.term_or_zero(j), v);
         let outside = A::largest().number() < v.number();
-        checks::checked(self, self.terms <= j, outside, tight.crossed)?;
-        doors::bound(self, j, tight);
+        checks::checked(self, self.terms <= j, outside)?;
+        match tighter::tighten(side, self.term[j], v) {
+            Err(Crossed) => return Err(NarrowingRefusal::Crossing),
+            Ok(None) => {}
+            Ok(Some(t)) => doors::bound(self, j, t),
+        }
         Ok(())
-    }
-
-    // Term j of the array, or zeros where it has no such entry.
-    fn term_or_zero(&self, j: usize) -> Term
-        ensures { result ≡ term_at self.now j }
-    {
-        self.term.get(j).copied().unwrap_or_default()
     }
 }

@@ -3,8 +3,9 @@ ghost use Rattle.std.specs.Prelude.{◌≡◌, ◌≤◌, ltb, true};
 ghost use Rattle.theory.specs.Choice.{choose};
 ghost use Rattle.theory.specs.Tests.{all};
 ghost use Rattle.year.specs.Sound.{term_sound, course_sound, term_blank, course_blank, term_good, course_good, sound_but_sums, sums_good, is_sound};
+ghost use Rattle.year.specs.SoundYear.{if_sound, year_inside};
 
-use crate::{Course, Term, Year, pairs, summing};
+use crate::{Course, SoundYear, Term, Year, pairs, summing};
 
 fn term_sound(t: Term) -> bool
     ensures { result ≡ term_sound t }
@@ -102,6 +103,16 @@ impl Year {
         ensures { result ≡ is_sound self.now }
     {
         is_sound_but_sums(self) && sums_good(self)
+    }
+
+    // This year as one that is known to be sound, or none where it is not.
+    pub fn sound(self) -> Option<SoundYear>
+        ensures { year_inside result ≡ if_sound self }
+    {
+        if !self.is_sound() {
+            return None;
+        }
+        Some(SoundYear { year: self })
     }
 }
 

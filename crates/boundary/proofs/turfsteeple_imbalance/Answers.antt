@@ -4,9 +4,6 @@ use Rattle.boundary.proofs.CallLaws as law
 use Rattle.boundary.proofs.SmallLaws.{place_small}
 use Rattle.boundary.proofs.turfsteeple_imbalance.Goals as goal
 
-pub imbalance-requires : goal.imbalance-requires
-imbalance-requires c = (law.read_year _ _ (sym c.in-Ok.ensures)).0
-
 pub refused-requires : goal.refused-requires
 refused-requires c = place_small _ _ (sym c.in-Err.ensures)
 

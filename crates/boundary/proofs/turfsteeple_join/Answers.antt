@@ -7,11 +7,8 @@ use Rattle.boundary.proofs.turfsteeple_join.Goals as goal
 pub overflow_add-terms : goal.overflow_add-terms
 overflow_add-terms c = omega (arith, (law.join_year _ _ _ (sym c.in-Ok.ensures)).2)
 
-pub write_sound-requires-clause-sound : goal.write_sound-requires-clause-sound
-write_sound-requires-clause-sound c = (law.join_year _ _ _ (sym c.in-Ok.ensures)).0
-
-pub write_sound-requires-clause-room : goal.write_sound-requires-clause-room
-write_sound-requires-clause-room c = omega (arith, (law.join_year _ _ _ (sym c.in-Ok.ensures)).1, c.if-out-terms.false)
+pub write_sound-requires : goal.write_sound-requires
+write_sound-requires c = record { room = omega (arith, (law.join_year _ _ _ (sym c.in-Ok-2.ensures)).1, c.if-out-terms.false) }
 
 pub unjoined-requires : goal.unjoined-requires
 unjoined-requires c = law.join_place _ _ _ (sym c.in-Err.ensures)
@@ -20,7 +17,7 @@ pub returns-in-Ok : goal.returns-in-Ok
 returns-in-Ok c = let all = law.join_short _ _ _ (sym c.in-Ok.ensures) _ c.if-out-terms.true in record { value = all.0; out_after = all.1 }
 
 pub returns-in-Ok-2 : goal.returns-in-Ok-2
-returns-in-Ok-2 c = let all = law.join_done _ _ _ (sym c.in-Ok.ensures) _ c.if-out-terms.false _ c.write_sound.ensures in record { value = all.0; out_after = all.1 }
+returns-in-Ok-2 c = let all = law.join_done _ _ _ (sym c.in-Ok-2.ensures) _ c.if-out-terms.false _ c.write_sound.ensures in record { value = all.0; out_after = all.1 }
 
 pub returns-in-Err : goal.returns-in-Err
 returns-in-Err c = let all = law.join_refused _ _ _ (sym c.in-Err.ensures) _ c.unjoined.ensures _ in record { value = all.0; out_after = all.1 }

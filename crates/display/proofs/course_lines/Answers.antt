@@ -11,10 +11,10 @@ loop-i-init c = sym (append-nil c.args.page.now)
 
 pub course_line-requires-clause-room : goal.course_line-requires-clause-room
 course_line-requires-clause-room c =
-    let y = c.args.y.now in
+    let y = c.args.y.now.year in
     rw c.course_of.ensures (law.line_room (course_line_at y) y.courses _ c.loop-i.i c.loop-i-test.true c.loop-i.invariant c.requires.room)
 
 pub loop-i-preserved : goal.loop-i-preserved
 loop-i-preserved c =
-    let y = c.args.y.now in
+    let y = c.args.y.now.year in
     law.line_turn (course_line_at y) y.courses _ c.loop-i.i c.loop-i-test.true c.loop-i.invariant (rw c.course_of.ensures at c.course_line.ensures)

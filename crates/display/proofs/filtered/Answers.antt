@@ -2,8 +2,8 @@
 use Rattle.display.proofs.ListingLaws.{filtered_sound}
 use Rattle.display.proofs.filtered.Goals as goal
 
-pub with_year-requires-clause-sound : goal.with_year-requires-clause-sound
-with_year-requires-clause-sound c = filtered_sound _ _ c.filter_sound-f.ensures c.requires.sound
+pub invariant_of-with_year : goal.invariant_of-with_year
+invariant_of-with_year c = record { sound = filtered_sound _ _ c.filter_sound-f.ensures c.args.y.sound }
 
-pub with_year-requires-in-Open-clause-sound : goal.with_year-requires-in-Open-clause-sound
-with_year-requires-in-Open-clause-sound c = filtered_sound _ _ c.filter_sound-f.ensures c.requires.sound
+pub invariant_of-with_year-in-Open : goal.invariant_of-with_year-in-Open
+invariant_of-with_year-in-Open c = record { sound = filtered_sound _ _ c.filter_sound-f.ensures c.args.y.sound }

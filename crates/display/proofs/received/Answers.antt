@@ -1,15 +1,11 @@
 -- `received`: a list that reads is filtered, and a refused one is told by number and place.
 use Rattle.std.proofs.Common.{◌++◌, sym, ap, subst, ◌∙◌}
 use Rattle.text.specs.Page.{Room}
-use Rattle.records.proofs.ListLaws.{read_sound}
 use Rattle.display.proofs.ListingLaws as law
 use Rattle.display.proofs.received.Goals as goal
 
-pub filtered-requires-clause-sound : goal.filtered-requires-clause-sound
-filtered-requires-clause-sound c = read_sound _ _ (sym c.in-Ok.ensures)
-
-pub filtered-requires-clause-room : goal.filtered-requires-clause-room
-filtered-requires-clause-room c = subst (Room c.args.page.now) (law.received_by _ _ (sym c.in-Ok.ensures)) c.requires
+pub filtered-requires : goal.filtered-requires
+filtered-requires c = record { room = subst (Room c.args.page.now) (law.received_by _ _ (sym c.in-Ok.ensures)) c.requires }
 
 pub overflow_cast-refusal : goal.overflow_cast-refusal
 overflow_cast-refusal c = record { fits = law.place_small _ _ (sym c.in-Err.ensures) }

@@ -11,10 +11,10 @@ loop-j-init c = sym (append-nil c.args.page.now)
 
 pub term_line-requires-clause-room : goal.term_line-requires-clause-room
 term_line-requires-clause-room c =
-    let y = c.args.y.now in
+    let y = c.args.y.now.year in
     law.line_room (term_line_at y) y.terms _ c.loop-j.j c.loop-j-test.true c.loop-j.invariant c.requires.room
 
 pub loop-j-preserved : goal.loop-j-preserved
 loop-j-preserved c =
-    let y = c.args.y.now in
+    let y = c.args.y.now.year in
     law.line_turn (term_line_at y) y.terms _ c.loop-j.j c.loop-j-test.true c.loop-j.invariant c.term_line.ensures

@@ -5,4 +5,4 @@ use Rattle.filter.proofs.filter_sound.Goals as goal
 
 pub returns : goal.returns
 unfolding filter_of
-returns c = simp (sound_to c.args.y c.requires) c.run.ensures
+returns c = simp (sound_to c.args.y.year c.args.y.sound) c.run.ensures

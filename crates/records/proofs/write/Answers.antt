@@ -1,35 +1,33 @@
 -- `write`: a year that passes the test is sound, so its records fit where the buffer has room for them.
 use mathlib.Core.Bool.{true}
-use mathlib.Core.Path.{◌≡◌, ◌∙◌, sym}
-use native.Mathlib.Omega.{arith}
-use Rattle.year.specs.Sound.{is_sound, Sound}
-use Rattle.year.proofs.SoundLaws.{sound_of}
+use mathlib.Core.Path.{◌≡◌}
+use Rattle.year.specs.Sound.{is_sound}
+use Rattle.year.proofs.SoundLaws.{sound_to}
+use Rattle.year.proofs.SoundYearLaws.{inside_same, none_unsound}
 use Rattle.records.proofs.WriteLaws as law
 use Rattle.records.proofs.write.Goals as goal
-use Rattle.records.proofs.write.Goals.{Else-not-is_sound}
+use Rattle.records.proofs.write.Goals.{In-Some}
 
-passes : (c : Else-not-is_sound) → is_sound c.args.y ≡ true
-passes c = sym c.is_sound.ensures ∙ c.if-not-is_sound.false
+-- the year inside is the one that was given
+same : (c : In-Some) → c.in-Some.y.year ≡ c.args.y
+same c = inside_same c.args.y c.sound.result c.sound.ensures c.in-Some.y c.in-Some.is
 
-sound : (c : Else-not-is_sound) → Sound c.args.y
-sound c = sound_of c.args.y (passes c)
+passes : (c : In-Some) → is_sound c.in-Some.y.year ≡ true
+passes c = sound_to c.in-Some.y.year c.in-Some.y.sound
 
-pub returns-then-not-is_sound : goal.returns-then-not-is_sound
-returns-then-not-is_sound c = let all = law.write_unsound c.args.y c.args.buf.now (sym c.is_sound.ensures ∙ c.if-not-is_sound.true) in record { answer = all.0; buf_after = all.1 }
-
-pub overflow_add-y : goal.overflow_add-y
-overflow_add-y c = omega (arith, sound (goal.at.overflow_add-y c).Else-not-is_sound)
-
-pub overflow_mul-y : goal.overflow_mul-y
-overflow_mul-y c = omega (arith, sound (goal.at.overflow_mul-y c).Else-not-is_sound)
+pub returns-in_default : goal.returns-in_default
+returns-in_default c = let all = law.write_unsound c.args.y c.args.buf.now (none_unsound c.args.y c.sound.result c.sound.ensures c.in_default.is) in record { answer = all.0; buf_after = all.1 }
 
 pub returns-then-buf-y : goal.returns-then-buf-y
-returns-then-buf-y c = let all = law.write_short c.args.y c.args.buf.now (passes (goal.at.returns-then-buf-y c).Else-not-is_sound) c.if-buf-y.true in record { answer = all.0; buf_after = all.1 }
+returns-then-buf-y c =
+    let i = (goal.at.returns-then-buf-y c).In-Some in
+    let all = rw (same i) at (law.write_short c.in-Some.y.year c.args.buf.now (passes i) c.if-buf-y.true) in
+    record { answer = all.0; buf_after = all.1 }
 
-pub write_sound-requires-clause-sound : goal.write_sound-requires-clause-sound
-write_sound-requires-clause-sound c = sound (goal.at.write_sound-requires-clause-sound c).Else-not-is_sound
-
-pub returns-clause-answer : goal.returns-clause-answer
-returns-clause-answer c =
-    let f = (goal.at.returns-clause-answer c).Else-not-is_sound in
-    law.write_done f.args.y f.args.buf.now (passes f) c.if-buf-y.false
+pub returns : goal.returns
+returns c =
+    let i = (goal.at.returns c).In-Some in
+    record {
+      answer = rw (same i) at (law.write_done c.in-Some.y.year c.args.buf.now (passes i) c.if-buf-y.false);
+      buf_after = rw (same i) at c.write_sound.ensures;
+    }

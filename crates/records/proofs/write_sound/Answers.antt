@@ -9,7 +9,7 @@ use Rattle.records.proofs.write_sound.Goals as goal
 
 pub returns : goal.returns
 returns c =
-    let y = c.args.y in
+    let y = c.args.y.now.year in
     c.put_courses.ensures
     ∙ ap (λ (d : List ℕ). laid d (y.terms * 16) (joined (course_block y) y.courses)) c.put_terms.ensures
-    ∙ laid_all y c.args.buf.now c.requires.sound c.requires.room
+    ∙ laid_all y c.args.buf.now c.args.y.now.sound c.requires.room

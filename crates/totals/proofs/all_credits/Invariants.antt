@@ -5,4 +5,4 @@ use Rattle.year.specs.Year.{weight}
 use Rattle.totals.proofs.all_credits.Given as goal
 
 abbrev pub invariant-loop-weight : goal.invariant-loop-weight
-invariant-loop-weight l = l.total.0 ≡ sum l.weight-index (weight l.fn.y)
+invariant-loop-weight l = l.total.0 ≡ sum l.weight-index (weight l.fn.y.year)

@@ -10,9 +10,13 @@ use Rattle.boundary.proofs.into.filter_into.Goals as goal
 pub write_sound-requires : goal.write_sound-requires
 write_sound-requires g c =
     let is = c.requires.filters _ c.filtering-answer.ensures in
-    let fits = filtered_fits c.args.y _ is c.requires.sound _ c.requires.room in
-    record { sound = fits.0; room = fits.1 }
+    record { room = (filtered_fits c.args.y.year _ is c.args.y.sound _ c.requires.room).1 }
 
 pub answer-requires : goal.answer-requires
 answer-requires g c =
-    subst (λ (f : Filtered). answer_detail f.answer < 256) (sym (c.requires.filters _ c.filtering-answer.ensures)) (detail_small c.args.y)
+    subst (λ (f : Filtered). answer_detail f.answer < 256) (sym (c.requires.filters _ c.filtering-answer.ensures)) (detail_small c.args.y.year)
+
+pub invariant_of-write_sound : goal.invariant_of-write_sound
+invariant_of-write_sound g c =
+    let is = c.requires.filters _ c.filtering-answer.ensures in
+    record { sound = (filtered_fits c.args.y.year _ is c.args.y.sound _ c.requires.room).0 }

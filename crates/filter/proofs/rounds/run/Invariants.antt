@@ -5,7 +5,7 @@ use Rattle.filter.proofs.BeforeRound.{BeforeRound}
 use Rattle.filter.proofs.rounds.run.Given as goal
 
 abbrev pub invariant-loop-rule : goal.invariant-loop-rule
-invariant-loop-rule l = BeforeRound l.fn.y l.kept l.s l.n
+invariant-loop-rule l = BeforeRound l.fn.y.year l.kept l.s l.n
 
 abbrev pub decreases-loop-rule : goal.decreases-loop-rule
 decreases-loop-rule l = leeway (year_in l.s)

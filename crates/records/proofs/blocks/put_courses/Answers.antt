@@ -10,11 +10,11 @@ use Rattle.records.proofs.blocks.put_courses.Goals as goal
 
 pub loop-i-init : goal.loop-i-init
 unfolding joined
-loop-i-init c = law.laid_nothing c.args.buf.now (c.args.y.terms * 16)
+loop-i-init c = law.laid_nothing c.args.buf.now (c.args.y.now.year.terms * 16)
 
 pub loop-i-preserved : goal.loop-i-preserved
 loop-i-preserved c =
-    let y = c.args.y in
+    let y = c.args.y.now.year in
     let i = c.loop-i.i in
     c.put.ensures
     ∙ ap₂ (λ (d r : List ℕ). laid d ((y.terms + i) * 16) r) c.loop-i.invariant (c.course_bytes.ensures ∙ ap (course_bytes i) c.course_of-c.ensures)

@@ -6,4 +6,4 @@ use Rattle.records.specs.Laid.{laid}
 use Rattle.records.proofs.blocks.put_courses.Given as goal
 
 abbrev pub invariant-loop-i : goal.invariant-loop-i
-invariant-loop-i l = l.buf ≡ laid l.initial.buf (l.y.terms * 16) (joined (course_block l.y) l.i)
+invariant-loop-i l = l.buf ≡ laid l.initial.buf (l.y.year.terms * 16) (joined (course_block l.y.year) l.i)

@@ -15,7 +15,7 @@ loop-j-init c = law.laid_nothing c.args.buf.now 0
 pub loop-j-preserved : goal.loop-j-preserved
 loop-j-preserved c =
     let b = c.args.buf.now in
-    let f = term_block c.args.y in
+    let f = term_block c.args.y.now.year in
     let j = c.loop-j.j in
     c.put.ensures
     ∙ ap₂ (λ (d r : List ℕ). laid d (j * 16) r) c.loop-j.invariant c.term_bytes.ensures

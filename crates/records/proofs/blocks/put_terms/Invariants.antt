@@ -5,4 +5,4 @@ use Rattle.records.specs.Laid.{laid}
 use Rattle.records.proofs.blocks.put_terms.Given as goal
 
 abbrev pub invariant-loop-j : goal.invariant-loop-j
-invariant-loop-j l = l.buf ≡ laid l.initial.buf 0 (joined (term_block l.y) l.j)
+invariant-loop-j l = l.buf ≡ laid l.initial.buf 0 (joined (term_block l.y.year) l.j)

@@ -6,7 +6,7 @@ use Rattle.year.specs.Imbalance.{fits_at}
 use Rattle.totals.proofs.measure.all_fit.Given as goal
 
 abbrev pub invariant-loop-k : goal.invariant-loop-k
-invariant-loop-k l = (l.k ≤ l.y.terms) × (l.good ≡ all l.k (fits_at l.y))
+invariant-loop-k l = (l.k ≤ l.y.year.terms) × (l.good ≡ all l.k (fits_at l.y.year))
 
 abbrev pub decreases-loop-k : goal.decreases-loop-k
-decreases-loop-k l = l.y.terms - l.k
+decreases-loop-k l = l.y.year.terms - l.k

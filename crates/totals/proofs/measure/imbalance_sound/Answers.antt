@@ -14,14 +14,14 @@ use Rattle.totals.proofs.measure.imbalance_sound.Goals.{then-not-all_placed-via-
 pub returns-then-not-all_placed : goal.returns-then-not-all_placed
 returns-then-not-all_placed c =
     elim c.then-not-all_placed.branch [
-      | then-not-all_placed-via-then-not-all_placed w ↦ sym (imbalance_open c.args.y c.requires (sym c.all_placed.ensures ∙ w.if-not-all_placed.true))
-      | then-not-all_placed-via-else-not-all_placed+then-not-all_fit w ↦ sym (imbalance_unfit c.args.y c.requires (sym c.all_placed.ensures ∙ w.if-not-all_placed.false) (sym w.all_fit.ensures ∙ w.if-not-all_fit.true))
+      | then-not-all_placed-via-then-not-all_placed w ↦ sym (imbalance_open c.args.y.now.year c.args.y.now.sound (sym c.all_placed.ensures ∙ w.if-not-all_placed.true))
+      | then-not-all_placed-via-else-not-all_placed+then-not-all_fit w ↦ sym (imbalance_unfit c.args.y.now.year c.args.y.now.sound (sym c.all_placed.ensures ∙ w.if-not-all_placed.false) (sym w.all_fit.ensures ∙ w.if-not-all_fit.true))
     ]
 
 pub difference-requires : goal.difference-requires
 difference-requires c =
-    let y = c.args.y in
-    let s = c.requires in
+    let y = c.args.y.now.year in
+    let s = c.args.y.now.sound in
     let l = c.loads_of.ensures in
     let total : sum y.terms (fixed_credits y) ≡ all_credits y = placed_total y s (sym c.all_placed.ensures ∙ c.if-not-all_placed.false) in (
       s.terms_most,
@@ -32,8 +32,8 @@ difference-requires c =
 
 pub returns : goal.returns
 returns c =
-    let y = c.args.y in
-    let s = c.requires in
+    let y = c.args.y.now.year in
+    let s = c.args.y.now.sound in
     let l = c.loads_of.ensures in
     let placed = sym c.all_placed.ensures ∙ c.if-not-all_placed.false in
     ap Ok (rw (l.all, l.squares, placed_total y s placed) at c.difference.ensures)

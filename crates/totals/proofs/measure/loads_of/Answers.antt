@@ -33,44 +33,44 @@ loop-k-init c = search rules
 
 -- k is a term's
 few : (c : In-loop-k) → c.loop-k.k < 16
-few c = omega (arith, c.loop-k-test.true, c.requires)
+few c = omega (arith, c.loop-k-test.true, c.args.y.now.sound)
 
 pub bounds-y-k : goal.bounds-y-k
 bounds-y-k c =
-    omega (arith, c.loop-k-test.true, sums_long c.args.y.now c.requires, c.requires)
+    omega (arith, c.loop-k-test.true, sums_long c.args.y.now.year c.args.y.now.sound, c.args.y.now.sound)
 
 -- what the year carries for it
-carried : (c : In-loop-k) → fixed_in c.args.y.now.sums c.loop-k.k ≡ fixed_credits c.args.y.now c.loop-k.k
+carried : (c : In-loop-k) → fixed_in c.args.y.now.year.sums c.loop-k.k ≡ fixed_credits c.args.y.now.year c.loop-k.k
 carried c =
-    let y = c.args.y.now in
-    fixed_read y y.sums c.requires.sums_kept c.loop-k.k (few c)
+    let y = c.args.y.now.year in
+    fixed_read y y.sums c.args.y.now.sound.sums_kept c.loop-k.k (few c)
 
-entry : (c : In-loop-k) → fixed_in c.args.y.now.sums c.loop-k.k ≤ 64000
-entry c = entry-small c.args.y.now c.requires c.loop-k.k _ (few c) (carried c)
+entry : (c : In-loop-k) → fixed_in c.args.y.now.year.sums c.loop-k.k ≤ 64000
+entry c = entry-small c.args.y.now.year c.args.y.now.sound c.loop-k.k _ (few c) (carried c)
 
 pub overflow_add-all : goal.overflow_add-all
 overflow_add-all c =
     let i = (goal.at.overflow_add-all c).In-loop-k in
-    omega (arith, c.loop-k.invariant.1, credits-small c.args.y.now c.requires c.loop-k.k (fixed_in c.args.y.now.sums c.loop-k.k) (few i) (carried i))
+    omega (arith, c.loop-k.invariant.1, credits-small c.args.y.now.year c.args.y.now.sound c.loop-k.k (fixed_in c.args.y.now.year.sums c.loop-k.k) (few i) (carried i))
 
 -- the same in 64 bits
-wide : (c : In-loop-k) (x : ℕ) → x ≡ fixed_in c.args.y.now.sums c.loop-k.k → x ≡ fixed_credits c.args.y.now c.loop-k.k
+wide : (c : In-loop-k) (x : ℕ) → x ≡ fixed_in c.args.y.now.year.sums c.loop-k.k → x ≡ fixed_credits c.args.y.now.year c.loop-k.k
 wide c x e = e ∙ carried c
 
 pub overflow_mul-squares : goal.overflow_mul-squares
 overflow_mul-squares c =
     let i = (goal.at.overflow_mul-squares c).In-loop-k in
-    let small = entry-small c.args.y.now c.requires c.loop-k.k _ (few i) (wide i _ c.from-wide.ensures) in
+    let small = entry-small c.args.y.now.year c.args.y.now.sound c.loop-k.k _ (few i) (wide i _ c.from-wide.ensures) in
     omega (arith, mul-le-mul small small)
 
 pub overflow_add-squares : goal.overflow_add-squares
 overflow_add-squares c =
     let i = (goal.at.overflow_add-squares c).In-loop-k in
-    omega (arith, c.loop-k.invariant.2, squares-small c.args.y.now c.requires c.loop-k.k c.from-wide.result (few i) (wide i _ c.from-wide.ensures))
+    omega (arith, c.loop-k.invariant.2, squares-small c.args.y.now.year c.args.y.now.sound c.loop-k.k c.from-wide.result (few i) (wide i _ c.from-wide.ensures))
 
 pub loop-k-preserved : goal.loop-k-preserved
 loop-k-preserved c =
-    let y = c.args.y.now in
+    let y = c.args.y.now.year in
     let i = (goal.at.loop-k-preserved c).In-loop-k in (
       search rules,
       ap₂ ◌+◌ c.loop-k.invariant.1 (carried i) ∙ sym (sum_more c.loop-k.k (fixed_credits y)),
@@ -79,7 +79,7 @@ loop-k-preserved c =
 
 pub returns : goal.returns
 returns c =
-    let y = c.args.y.now in
+    let y = c.args.y.now.year in
     let last : c.loop-k.k ≡ y.terms = omega (arith, c.loop-k.invariant.0, c.loop-k-test.false) in
     record {
       all = c.loop-k.invariant.1 ∙ ap (λ n. sum n (fixed_credits y)) last;

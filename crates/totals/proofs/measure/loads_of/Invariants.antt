@@ -8,7 +8,7 @@ use Rattle.totals.proofs.measure.loads_of.Given as goal
 
 -- ---- the loop
 abbrev pub invariant-loop-k : goal.invariant-loop-k
-invariant-loop-k l = (l.k ≤ l.k-end) × (l.all.0 ≡ sum l.k (fixed_credits l.y)) × (l.squares ≡ sum l.k (λ j. square (fixed_credits l.y j)))
+invariant-loop-k l = (l.k ≤ l.k-end) × (l.all.0 ≡ sum l.k (fixed_credits l.y.year)) × (l.squares ≡ sum l.k (λ j. square (fixed_credits l.y.year j)))
 
 abbrev pub decreases-loop-k : goal.decreases-loop-k
 decreases-loop-k l = l.k-end - l.k

@@ -10,7 +10,7 @@ use Rattle.walks.proofs.walking.by_walk.Goals as goal
 pub returns-then-u-eq0 : goal.returns-then-u-eq0
 returns-then-u-eq0 c =
     let a = c.args in
-    c.ended.ensures ∙ ap told (walk_none a.rule a.s.now a.j c.requires.in_range a.spare c.requires.set_up c.begun-w.result c.begun-w.ensures (omega (arith, c.if-u-eq0.true)))
+    c.ended.ensures ∙ ap told (walk_none a.way.rule a.s.now a.j c.requires.in_range a.spare c.requires.set_up c.begun-w.result c.begun-w.ensures (omega (arith, c.if-u-eq0.true)))
 
 pub walked-requires-clause-begins : goal.walked-requires-clause-begins
 walked-requires-clause-begins c =
@@ -19,4 +19,4 @@ walked-requires-clause-begins c =
     (sums_small s.weight.now s.list c.args.j s.courses _ (sums_over (year_in s) s.sound c.args.j (omega (arith, s.sound))) s.sound.courses_most (λ i h. (s.sound.course_sound i h).weight_most))
 
 pub walked-requires-clause-fits : goal.walked-requires-clause-fits
-walked-requires-clause-fits c = walk_order c.args.rule c.args.s.now c.args.order.now c.requires.in_order
+walked-requires-clause-fits c = walk_order c.args.way.rule c.args.s.now c.args.way.order.now c.requires.in_order

@@ -6,7 +6,7 @@ use Rattle.std.proofs.lemmas.Result.{err_from_is_err_and}
 use Rattle.theory.specs.Fold.{fold}
 use Rattle.frame.specs.State.{step_of}
 use Rattle.walks.specs.Sparing.{tallies_of}
-use Rattle.walks.proofs.WalkRows.{walk_here, order_at, set_up, walk_fits, walk_turn, walk_stop, least_left, sums_left}
+use Rattle.walks.proofs.WalkRows.{walk_here, weight_at, order_at, set_up, walk_fits, walk_turn, walk_stop, least_left, sums_left}
 use Rattle.walks.proofs.walking.walk_rule.Goals as goal
 use Rattle.walks.proofs.walking.walk_rule.Goals.{After-spares-spare}
 
@@ -19,6 +19,9 @@ within c = walk_here c.args.rule c.args.s.now c.loop-j.j c.loop-j-test.true c.lo
 
 pub by_walk-outcome-requires-clause-in_range : goal.by_walk-outcome-requires-clause-in_range
 by_walk-outcome-requires-clause-in_range c = within (goal.at.by_walk-outcome-requires-clause-in_range c).After-spares-spare
+
+pub by_walk-outcome-requires-clause-weights : goal.by_walk-outcome-requires-clause-weights
+by_walk-outcome-requires-clause-weights c = weight_at c.args.rule c.args.s.now c.loop-j.j c.loop-j-test.true c.loop-j.s c.loop-j.invariant.holds
 
 pub by_walk-outcome-requires-clause-in_order : goal.by_walk-outcome-requires-clause-in_order
 by_walk-outcome-requires-clause-in_order c =

@@ -11,7 +11,7 @@ use Rattle.walks.proofs.walking.walk_rule.Given as goal
 
 abbrev pub invariant-loop-j : goal.invariant-loop-j
 invariant-loop-j l = record {
-  holds : step_in l.s ≡ over_to (rule_of l.rule) (step_in l.fn.s) l.j;
+  holds : step_in l.s ≡ over_to (rule_of l.fn.rule) (step_in l.fn.s) l.j;
   low_counts_are : l.least ≡ tab 16 (least_in l.s.term);
   tallied : l.tallies ≡ tallies_of l.s.sums;
 }

@@ -13,18 +13,21 @@ use Rattle.walks.proofs.walking.walked.Goals.{After-course_in-c, then-is_open+in
 
 -- the course at hand
 abbrev number : After-course_in-c → ℕ
-number c = get_or (take c.args.s.now.courses c.args.order.now) c.loop-i.i-index 0
+number c = get_or (take c.args.s.now.courses c.args.way.order.now) c.loop-i.i-index 0
 
 course : (c : After-course_in-c) → c.course_in-c.result ≡ course_in c.args.s.now.weight.now c.args.s.now.list (number c)
-course c = c.course_in-c.ensures ∙ ap (course_in c.args.s.now.weight.now c.args.s.now.list) c.from.ensures
+course c =
+    c.course_in-c.ensures
+    ∙ ap (course_in c.args.way.weight.now c.args.s.now.list) c.from.ensures
+    ∙ ap (λ w. course_in w c.args.s.now.list (number c)) c.requires.weights
 
 few : (c : After-course_in-c) → c.loop-i.i-index < c.args.s.now.courses
-few c = omega (arith, length-take c.args.s.now.courses c.args.order.now)
+few c = omega (arith, length-take c.args.s.now.courses c.args.way.order.now)
 
 light : (c : After-course_in-c) → c.course_in-c.result.weight.0 ≤ 1000
 light c =
     let s = c.args.s.now in
-    let small : number c < s.courses = rw (get_or-take s.courses c.args.order.now c.loop-i.i-index 0 (few c)) (c.requires.fits.1 c.loop-i.i-index (few c)) in
+    let small : number c < s.courses = rw (get_or-take s.courses c.args.way.order.now c.loop-i.i-index 0 (few c)) (c.requires.fits.1 c.loop-i.i-index (few c)) in
     rw (course c) (s.sound.course_sound (number c) small).weight_most
 
 pub walk_step-requires-clause-room : goal.walk_step-requires-clause-room
@@ -38,7 +41,7 @@ returns-in-Break c =
     let a = c.args in
     let s = a.s.now in
     let d = (goal.at.returns-in-Break c).After-course_in-c in
-    stop_at s.weight.now s.list a.j a.until (take s.courses a.order.now) c.loop-i.i-index c.loop-i-test.true c.loop-i.w c.course_in-c.result (course d)
+    stop_at s.weight.now s.list a.j a.until (take s.courses a.way.order.now) c.loop-i.i-index c.loop-i-test.true c.loop-i.w c.course_in-c.result (course d)
     (sym c.if-is_open.ensures) c.in-Break.last c.in-Break.ensures
     ∙ c.loop-i.invariant.rest
 
@@ -47,7 +50,7 @@ loop-i-preserved c =
     let a = c.args in
     let s = a.s.now in
     let d = (goal.at.loop-i-preserved c).After-course_in-c in
-    let all = take s.courses a.order.now in
+    let all = take s.courses a.way.order.now in
     let k = c.loop-i.i-index in
     let is : c.course_in-c.result ≡ course_in s.weight.now s.list (number d) = course d in
     elim c.if-is_open.branch [
@@ -76,7 +79,7 @@ pub returns : goal.returns
 returns c =
     let a = c.args in
     let s = a.s.now in
-    let all = take s.courses a.order.now in
+    let all = take s.courses a.way.order.now in
     let end : c.loop-i.i-index ≡ length all = omega arith in
     sym (none_left s.weight.now s.list a.j a.until all c.loop-i.w)
     ∙ ap (λ k. walk_over s.weight.now s.list a.j a.until (drop k all) c.loop-i.w) (sym end)
