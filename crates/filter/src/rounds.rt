@@ -46,19 +46,19 @@ fn round(s: &mut State, all: Credits, kept: &mut Option<Orders>) -> Result<(), R
     ensures in_order { IfSome kept.new (λ o. o ≡ orders_of (year_in s.old)) }
 {
     first_half(s, all)?;
-    let o = orders_kept(kept, s.weight, s.courses);
+    let o = orders_kept(kept, &s.weight[..s.courses]);
     second_half(s, &o)
 }
 
-// The orders of the first n courses, computed where they are not kept yet.
-fn orders_kept(kept: &mut Option<Orders>, weight: &[u32], n: usize) -> Orders
-    requires courses_there { (n ≤ length weight.now) × (n ≤ 64) }
-    requires weights_small { (i : ℕ) → i < n → get_or weight.now i 0 ≤ 1000 }
-    requires in_order { IfSome kept.old (λ o. o ≡ orders_in weight.now n) }
-    ensures value { result ≡ orders_in weight.now n }
-    ensures in_order { kept.new ≡ Some (orders_in weight.now n) }
+// The orders of the courses of these weights, computed where they are not kept yet.
+fn orders_kept(kept: &mut Option<Orders>, weight: &[u32]) -> Orders
+    requires few { length weight.now ≤ 64 }
+    requires light { (i : ℕ) → i < length weight.now → get_or weight.now i 0 ≤ 1000 }
+    requires in_order { IfSome kept.old (λ o. o ≡ orders_in weight.now (length weight.now)) }
+    ensures value { result ≡ orders_in weight.now (length weight.now) }
+    ensures in_order { kept.new ≡ Some (orders_in weight.now (length weight.now)) }
 {
-    *kept.get_or_insert_with(|| orders::orders_of(weight, n))
+    *kept.get_or_insert_with(|| orders::orders_of(weight))
 }
 
 // The year of a state, with the weights of y, which it was lent.

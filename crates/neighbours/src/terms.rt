@@ -47,7 +47,7 @@ fn says(s: &State, rising: &[u8], j: usize) -> Result<Says, Rule>
     }
     let range = Range::of(s, j);
     let last = gathering::last_open(s, rising, j);
-    let heaviest = orders::heaviest(s.weight, rising, last);
+    let heaviest = orders::heaviest(s.weight, &rising[..last]);
     if heaviest.0 <= range.most.0 && heaviest.0 <= range.width().0 {
         return Ok(Says::Nothing);
     }

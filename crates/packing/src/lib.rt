@@ -38,7 +38,7 @@ fn unpackable(s: &State, rising: &[u8]) -> bool
     thresholds::overfull(Load {
         course: &course[..s.courses],
         rising,
-        heaviest: orders::heaviest(s.weight, rising, s.courses),
+        heaviest: orders::heaviest(s.weight, &rising[..s.courses]),
         own: &own[..s.terms],
         c,
         limit: Credits(s.terms as u32 * c.0),

@@ -63,17 +63,29 @@ fn capped(c: Credits, x: Credits) -> Credits
     if c.0 / 2 < x.0 { c } else { x }
 }
 
-// What all sizes count for at t. This sum and the two below stay apart: one for all three would take a closure, and its contract would
-// have to say what that answers and how large the answers are.
+// What the sizes count for together, by what one size counts for: each answer at size i is the number f i, and at most 64,000.
+fn sum_by<F: Fn(Credits) -> Credits>(sizes: &[u32], count: F) -> Credits
+    requires few { length sizes.now ≤ 64 }
+    requires counted { F.IsAlwaysCallable count }
+    requires light { (i : ℕ) (x r : Credits) → i < length sizes.now → x.0 ≡ get_or sizes.now i 0 → F.post count x r → r.0 ≤ 64000 }
+    ensures small { result.0 ≤ 4096000 }
+    ensures is { (f : ℕ → ℕ)
+        → ((i : ℕ) (x r : Credits) → i < length sizes.now → x.0 ≡ get_or sizes.now i 0 → F.post count x r → r.0 ≡ f i)
+        → result.0 ≡ sum (length sizes.now) f }
+{
+    let mut sum = Credits(0);
+    for size in sizes {
+        sum.0 += count(Credits(*size)).0;
+    }
+    sum
+}
+
+// What all sizes count for at t.
 pub fn share_sum(x: &[u32], c: Credits, t: Credits) -> Credits
     requires { (length x.now ≤ 64) × (c.0 ≤ 64000) × (t.0 ≤ c.0) }
     ensures { (result.0 ≡ share_sum x.now c.0 t.0) × (result.0 ≤ 4096000) }
 {
-    let mut sum = Credits(0);
-    for size in x {
-        sum.0 += share(c, t, Credits(*size)).0;
-    }
-    sum
+    sum_by(x, |size| share(c, t, size))
 }
 
 // The most that all sizes count for at any t up to half of c.
@@ -81,11 +93,7 @@ pub fn cap_sum(x: &[u32], c: Credits) -> Credits
     requires { (length x.now ≤ 64) × (c.0 ≤ 64000) }
     ensures { (result.0 ≡ cap_sum x.now c.0) × (result.0 ≤ 4096000) }
 {
-    let mut sum = Credits(0);
-    for size in x {
-        sum.0 += capped(c, Credits(*size)).0;
-    }
-    sum
+    sum_by(x, |size| capped(c, size))
 }
 
 // All sizes together.
@@ -94,9 +102,5 @@ pub fn total(x: &[u32]) -> Credits
     requires light { (i : ℕ) → i < length x.now → get_or x.now i 0 ≤ 1000 }
     ensures { (result.0 ≡ sum (length x.now) (size_at x.now)) × (result.0 ≤ 64000) }
 {
-    let mut sum = Credits(0);
-    for size in x {
-        sum.0 += *size;
-    }
-    sum
+    sum_by(x, |size| size)
 }

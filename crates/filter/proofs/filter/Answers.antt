@@ -1,5 +1,5 @@
 -- A year that is not sound is refused; any other is known to be sound.
-use mathlib.Core.Path.{sym, ap, ◌∙◌}
+use mathlib.Core.Path.{ap, ◌∙◌}
 use Rattle.year.proofs.SoundYearLaws.{inside_same, none_unsound}
 use Rattle.filter.specs.Filter.{filter_of}
 use Rattle.filter.proofs.filter.Goals as goal

@@ -3,11 +3,12 @@ use Prim.Native.Nat.{◌+◌, ◌*◌, ◌/◌, ◌≤◌}
 use mathlib.Core.Path.{◌≡◌, sym, ap, ap₂, ◌∙◌, subst}
 use native.Mathlib.Nat.{mul-le-mul_right}
 use native.Mathlib.Omega.{arith}
-use lib.ListN.{take}
+use lib.ListN.{take, length}
+use Rattle.std.proofs.lemmas.List.{length-take-le}
 use Rattle.theory.specs.Tab.{tab}
 use Rattle.theory.specs.Tests.{any}
 use Rattle.frame.specs.State.{year_in}
-use Rattle.orders.proofs.OrderLaws.{OrderFits, up_fits}
+use Rattle.orders.proofs.OrderLaws.{OrderFits, up_fits, cut_weighed, last_cut}
 use Rattle.packing.specs.Sizes.{size_in, used_in, over}
 use Rattle.orders.specs.Orders.{last_weight}
 use Rattle.packing.proofs.ArrayLaws.{take_first}
@@ -48,12 +49,25 @@ overflow_mul-s c =
     let r = (goal.at.overflow_mul-s c).After-room-c in
     omega (arith, small r, mul-le-mul_right r.room-c.result.0 c.args.s.now.sound.terms_most)
 
+-- the order that is lent holds each course of the year
+order_fits : (b : Start) → let s = b.args.s.now in OrderFits b.args.rising.now s.courses
+order_fits b =
+    let s = b.args.s.now in
+    subst (λ o. OrderFits o s.courses) (sym b.requires.from_lightest) (up_fits (year_in s) s.sound)
+
+order_long : (b : Start) → b.args.s.now.courses ≤ length b.args.rising.now
+order_long b = omega (arith, (order_fits b).long, b.args.s.now.sound.courses_most)
+
+pub slice_bounds-heaviest-end : goal.slice_bounds-heaviest-end
+slice_bounds-heaviest-end c = sym (length-take-le c.args.s.now.courses c.args.rising.now (order_long (goal.at.slice_bounds-heaviest-end c).Start))
+
 pub heaviest-requires : goal.heaviest-requires
 heaviest-requires c =
+    let b = (goal.at.heaviest-requires c).Start in
     let s = c.args.s.now in
-    let few = s.sound.courses_most in
-    let fits = subst (λ o. OrderFits o s.courses) (sym c.requires.from_lightest) (up_fits (year_in s) s.sound) in
-    record { n_in_bounds = (omega (arith, few, fits.long), few); by_index = λ r l. omega (arith, s.sound, fits.small r l) }
+    record {
+      each_weighed = cut_weighed s.weight.now c.args.rising.now s.courses (order_long b) (λ r l. omega (arith, s.sound, (order_fits b).small r l));
+    }
 
 pub invariant_of-overfull : goal.invariant_of-overfull
 invariant_of-overfull c =
@@ -63,7 +77,7 @@ invariant_of-overfull c =
     record {
       fits =
           fitting s _ (courses_are p) c.args.rising.now c.requires.from_lightest _ (used_in s.term s.sums c.room-c.result.0) (terms_are q) c.room-c.result.0
-          (small (goal.at.invariant_of-overfull c).After-room-c) _ (c.heaviest.ensures ∙ ap (λ o. last_weight s.weight.now o s.courses) c.requires.from_lightest);
+          (small (goal.at.invariant_of-overfull c).After-room-c) _ (c.heaviest.ensures ∙ last_cut s.weight.now c.args.rising.now s.courses (order_long (goal.at.invariant_of-overfull c).Start) ∙ ap (λ o. last_weight s.weight.now o s.courses) c.requires.from_lightest);
     }
 
 pub returns : goal.returns

@@ -43,14 +43,15 @@ orders_kept-o-requires c =
     let b = (goal.at.orders_kept-o-requires c).Start in
     let n = between a in
     let z = year_in a.first_half.new.s in
-    let f = weights_fit z a.first_half.new.s.sound in
+    let sound = a.first_half.new.s.sound in
+    let f = weights_fit z sound in
     let i = in_order_still (year_in b.args.s.now) z b.args.kept.now n.courses_same n.weight_same b.requires.in_order in
-    record { courses_there = f.0; weights_small = f.1; in_order = in_order_at z b.args.kept.now i }
+    record { few = f.few; light = f.light; in_order = in_order_at z sound b.args.kept.now i }
 
 pub second_half-requires : goal.second_half-requires
 second_half-requires c =
     let a = (goal.at.second_half-requires c).In_ok-first_half in
-    record { in_order = c.orders_kept-o.ensures.value ∙ orders_are (year_in a.first_half.new.s) }
+    record { in_order = c.orders_kept-o.ensures.value ∙ orders_are (year_in a.first_half.new.s) a.first_half.new.s.sound }
 
 pub returns-clause-step : goal.returns-clause-step
 returns-clause-step c =
@@ -62,4 +63,4 @@ returns-clause-in_order c =
     let a = (goal.at.returns-clause-in_order c).In_ok-first_half in
     let b = (goal.at.returns-clause-in_order c).Start in
     let n = between a in
-    rw c.orders_kept-o.ensures.in_order (orders_are (year_in a.first_half.new.s) ∙ orders_weights (year_in b.args.s.now) (year_in a.first_half.new.s) n.courses_same n.weight_same)
+    rw c.orders_kept-o.ensures.in_order (orders_are (year_in a.first_half.new.s) a.first_half.new.s.sound ∙ orders_weights (year_in b.args.s.now) (year_in a.first_half.new.s) n.courses_same n.weight_same)

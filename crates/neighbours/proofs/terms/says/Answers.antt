@@ -1,14 +1,16 @@
 -- Three early ends; else what is said of the open courses is said of the term.
-use Prim.Native.Nat.{◌-◌, ◌≤◌, ◌<◌}
+use Prim.Native.Nat.{ℕ, ◌-◌, ◌≤◌, ◌<◌}
 use mathlib.Core.Bool.{true≢false}
 use mathlib.Core.Path.{◌≡◌, refl, sym, ◌∙◌}
 use native.Mathlib.Omega.{arith}
 use borrow.Author.Tests.{lt-ltb}
+use Rattle.std.proofs.lemmas.List.{length-take-le}
 use Rattle.year.specs.Year.{term_at}
-use lib.ListN.{get_or}
+use lib.ListN.{length, get_or}
 use Rattle.year.specs.Sums.{no_sums, fixed_credits}
 use Rattle.year.specs.declared.Year.{Year}
 use Rattle.frame.specs.State.{year_in}
+use Rattle.orders.proofs.OrderLaws.{cut_weighed, last_cut}
 use Rattle.neighbours.specs.Opened.{Ordered}
 use Rattle.neighbours.specs.Verdicts.{Columns}
 use Rattle.neighbours.proofs.TermLaws.{last_heaviest, right_of, light_says}
@@ -58,14 +60,22 @@ returns-then-u-eq0 c =
 pub last_open-last-requires-clause-ordered : goal.last_open-last-requires-clause-ordered
 last_open-last-requires-clause-ordered c = ordered (goal.at.last_open-last-requires-clause-ordered c).Start
 
-pub heaviest-heaviest-requires-clause-n_in_bounds : goal.heaviest-heaviest-requires-clause-n_in_bounds
-heaviest-heaviest-requires-clause-n_in_bounds c =
-    let o = ordered (goal.at.heaviest-heaviest-requires-clause-n_in_bounds c).Start in
-    (omega (arith, o.long), omega (arith, o.few))
+-- the places up to the last open course are cut out of the order
+few : (b : Start) (last : ℕ) → last ≤ b.args.s.now.courses → last ≤ length b.args.rising.now
+few b last h = omega (arith, (ordered b).long)
 
-pub heaviest-heaviest-requires-clause-by_index : goal.heaviest-heaviest-requires-clause-by_index
-heaviest-heaviest-requires-clause-by_index c =
-    λ r h. (ordered (goal.at.heaviest-heaviest-requires-clause-by_index c).Start).weighed r (omega arith)
+pub slice_bounds-heaviest-end : goal.slice_bounds-heaviest-end
+slice_bounds-heaviest-end c =
+    let b = (goal.at.slice_bounds-heaviest-end c).Start in
+    sym (length-take-le c.last_open-last.result b.args.rising.now (few b _ c.last_open-last.ensures.within))
+
+pub heaviest-heaviest-requires : goal.heaviest-heaviest-requires
+heaviest-heaviest-requires c =
+    let b = (goal.at.heaviest-heaviest-requires c).Start in
+    let last = c.last_open-last.ensures.within in
+    record {
+      each_weighed = cut_weighed b.args.s.now.weight.now b.args.rising.now c.last_open-last.result (few b _ last) (λ r h. (ordered b).weighed r (omega arith));
+    }
 
 pub returns-then-heaviest-width : goal.returns-then-heaviest-width
 returns-then-heaviest-width c =
@@ -79,6 +89,7 @@ returns-then-heaviest-width c =
     (λ i m h. omega (
       arith,
       c.heaviest-heaviest.ensures,
+      last_cut s.weight.now b.args.rising.now c.last_open-last.result (few b _ c.last_open-last.ensures.within),
       last_heaviest (y b) (columns b) j b.args.rising.now (b.requires.from_lightest ∙ rising_is (y b)) c.last_open-last.result c.last_open-last.ensures.within c.last_open-last.ensures.none_behind i m h,
     ))
     r.ordered
