@@ -113,7 +113,7 @@ pub fn sum_up(y: &mut Year)
         → (get_or y.old.weight i 0 ≤ 1000) × (get_or y.old.list i 0 < 2 ^ y.old.terms) }
     ensures { y.new ≡ with_sums y.old }
 {
-    y.sums = summing::sums_over(&y.weight, &y.list, y.terms, y.courses);
+    y.sums = summing::sums_over(&y.weight[..y.courses], &y.list[..y.courses], y.terms);
 }
 
 pub fn bad_length(n: usize) -> bool

@@ -1,16 +1,18 @@
 -- The bounds of the sums of a term, and an array that holds them.
-use Prim.Native.Nat.{ℕ, ◌+◌, ◌*◌, ◌≤◌, ◌<◌}
+use Prim.Native.Nat.{ℕ, ◌+◌, ◌*◌, ◌^◌, ◌≤◌, ◌<◌}
 use mathlib.Core.Bool.{Bool, true, false, ◌&&◌, not}
-use mathlib.Core.Path.{◌≡◌, refl, ap, ◌∙◌}
+use mathlib.Core.Path.{◌≡◌, refl, sym, ap, ap₂, ◌∙◌}
 use native.Mathlib.Omega.{arith}
 use mathlib.Core.List.{List}
-use lib.ListN.{length, get_or}
+use lib.ListN.{length, take, get_or}
+use Rattle.std.proofs.lemmas.List.{get_or-take, length-take-le}
 use Rattle.theory.specs.Sum.{pick, sum}
-use Rattle.theory.proofs.SumLaws.{sum_mono, sum_add, sum_le_mul, sum_term_le}
+use Rattle.theory.proofs.SumLaws.{sum_cong, sum_mono, sum_add, sum_le_mul, sum_term_le}
 use Rattle.theory.specs.Tab.{tab}
-use Rattle.theory.proofs.TabLaws.{length_tab, get_or_tab}
-use Rattle.year.specs.Year.{course_in, is_fixed, is_open, lists}
-use Rattle.year.specs.Sums.{fixed_weight, open_weight, fixed_one, open_one, fixed_credits, open_credits, fixed_count, open_count, all_credits, no_sums, sums_at}
+use Rattle.theory.proofs.TabLaws.{length_tab, get_or_tab, tab_cong}
+use Rattle.year.specs.Year.{course_of, course_in, is_fixed, is_open, lists}
+use Rattle.year.specs.Sums.{fixed_weight, open_weight, fixed_one, open_one, fixed_credits, open_credits, fixed_count, open_count, all_credits, no_sums, sums_of, sums_at}
+use Rattle.year.specs.SumsOf.{sums_to}
 use Rattle.year.specs.Sound.{Sound}
 use Rattle.year.specs.declared.Sums.{Sums}
 use Rattle.year.specs.declared.Year.{Year}
@@ -54,6 +56,34 @@ module _ (w l : List ℕ) where
       go : (b : Bool) → is_open (course_in w l i) j ≡ b → pick b 1 ≤ sum n (open_one w l j) → is_open (course_in w l i) j ≡ false
       go true p q = absurd (omega arith)
       go false p q = p
+
+-- columns cut to their first n courses have the sums that these have
+module _ (w l : List ℕ) (n : ℕ) (p : n ≤ length w) (q : n ≤ length l) where
+  sum_cut : (f : ℕ → ℕ → ℕ) → sum n (λ i. f (get_or (take n w) i 0) (get_or (take n l) i 0)) ≡ sum n (λ i. f (get_or w i 0) (get_or l i 0))
+  sum_cut f =
+      sum_cong n (λ i. f (get_or (take n w) i 0) (get_or (take n l) i 0)) (λ i. f (get_or w i 0) (get_or l i 0))
+      (λ i h. ap₂ f (get_or-take n w i 0 h) (get_or-take n l i 0 h))
+
+  pub sums_cut : tab 16 (sums_to (take n w) (take n l) (length (take n w))) ≡ tab 16 (sums_to w l n)
+  sums_cut = rw (length-take-le n w p) (tab_cong 16 (sums_to (take n w) (take n l) n) (sums_to w l n) each)
+    where
+      each : (j : ℕ) → j < 16 → sums_to (take n w) (take n l) n j ≡ sums_to w l n j
+      each j h =
+          let a = sum_cut (λ x y. pick (is_fixed (course_of x y) j) x) in
+          let b = sum_cut (λ x y. pick (is_open (course_of x y) j) x) in
+          let c = sum_cut (λ x y. pick (is_fixed (course_of x y) j) 1) in
+          let d = sum_cut (λ x y. pick (is_open (course_of x y) j) 1) in
+          λ t. sums_of (a t) (a t + b t) (c t) (d t)
+
+  pub cut_alike : length (take n l) ≡ length (take n w)
+  cut_alike = length-take-le n l q ∙ sym (length-take-le n w p)
+
+  -- each of these courses is of the size that its entries have
+  pub cut_sized : (m : ℕ) → ((i : ℕ) → i < n → (get_or w i 0 ≤ 1000) × (get_or l i 0 < 2 ^ m))
+      → (i : ℕ) → i < length (take n w) → (get_or (take n w) i 0 ≤ 1000) × (get_or (take n l) i 0 < 2 ^ m)
+  cut_sized m h i k =
+      let u : i < n = omega (arith, length-take-le n w p) in
+      (omega (arith, (h i u).0, get_or-take n w i 0 u), omega (arith, (h i u).1, get_or-take n l i 0 u))
 
 -- ---- over the year
 

@@ -7,11 +7,11 @@ use crate::{Course, Sums, Term, Year, sound, summing};
 
 // The year with the sums over its lists.
 pub fn with_sums(y: Year) -> Year
-    requires terms_bound { (y.terms ≤ 16) × (y.courses ≤ 64) }
-    requires by_index { (i : ℕ) → i < y.courses → (get_or y.weight i 0 ≤ 1000) × (get_or y.list i 0 < 2 ^ y.terms) }
+    requires sizes { (y.terms ≤ 16) × (y.courses ≤ 64) }
+    requires each_course { (i : ℕ) → i < y.courses → (get_or y.weight i 0 ≤ 1000) × (get_or y.list i 0 < 2 ^ y.terms) }
     ensures { result ≡ with_sums y }
 {
-    let sums = summing::sums_over(&y.weight, &y.list, y.terms, y.courses);
+    let sums = summing::sums_over(&y.weight[..y.courses], &y.list[..y.courses], y.terms);
     Year { sums, ..y }
 }
 

@@ -94,7 +94,7 @@ fn sums_good(y: &Year) -> bool
     requires { sound_but_sums y.now ≡ true }
     ensures { result ≡ all 16 (sums_good y.now) }
 {
-    y.sums == summing::sums_over(&y.weight, &y.list, y.terms, y.courses)
+    y.sums == summing::sums_over(&y.weight[..y.courses], &y.list[..y.courses], y.terms)
 }
 
 impl Year {

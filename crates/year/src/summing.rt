@@ -24,19 +24,20 @@ struct ShortCredits(u16);
 #[derive(Clone, Copy)]
 struct ShortCourses(u16);
 
-// The sums of term j over the first n courses, with no branch in the loop.
-fn sums_in(weight: &[u32], list: &[u16], n: usize, j: usize) -> Sums
-    requires courses_there { (n ≤ 64) × (n ≤ length weight.now) × (n ≤ length list.now) }
+// The sums of term j over the courses of two columns, with no branch in the loop.
+fn sums_in(weight: &[u32], list: &[u16], j: usize) -> Sums
+    requires few { length weight.now ≤ 64 }
+    requires one_length { length list.now ≡ length weight.now }
     requires term_there { j < 16 }
-    requires weights_small { (i : ℕ) → i < n → get_or weight.now i 0 ≤ 1000 }
-    ensures { result ≡ sums_to weight.now list.now n j }
+    requires light { (i : ℕ) → i < length weight.now → get_or weight.now i 0 ≤ 1000 }
+    ensures { result ≡ sums_to weight.now list.now (length weight.now) j }
 {
     let alone = doors::power(j);
     let mut fixed = ShortCredits(0);
     let mut possible = ShortCredits(0);
     let mut placed = ShortCourses(0);
     let mut listed = ShortCourses(0);
-    for i in 0..n {
+    for i in 0..weight.len() {
         let w = weight[i] as u16;
         let l = list[i];
         let lists = doors::lists(l, j);
@@ -53,16 +54,17 @@ fn sums_in(weight: &[u32], list: &[u16], n: usize, j: usize) -> Sums
     }
 }
 
-// The sums of sixteen entries over the first n courses, which list none but the first m terms: those of the others are 0.
-pub fn sums_over(weight: &[u32], list: &[u16], m: usize, n: usize) -> [Sums; Year::TERMS]
-    requires courses_there { (n ≤ 64) × (n ≤ length weight.now) × (n ≤ length list.now) }
+// The sums of sixteen entries over the courses of two columns, which list none but the first m terms: those of the others are 0.
+pub fn sums_over(weight: &[u32], list: &[u16], m: usize) -> [Sums; Year::TERMS]
+    requires few { length weight.now ≤ 64 }
+    requires one_length { length list.now ≡ length weight.now }
     requires terms_there { m ≤ 16 }
-    requires courses_sized { (i : ℕ) → i < n → (get_or weight.now i 0 ≤ 1000) × (get_or list.now i 0 < 2 ^ m) }
-    ensures { result ≡ tab 16 (sums_to weight.now list.now n) }
+    requires courses_sized { (i : ℕ) → i < length weight.now → (get_or weight.now i 0 ≤ 1000) × (get_or list.now i 0 < 2 ^ m) }
+    ensures { result ≡ tab 16 (sums_to weight.now list.now (length weight.now)) }
 {
     let mut s = [Sums::default(); Year::TERMS];
     for j in 0..m {
-        s[j] = sums_in(weight, list, n, j);
+        s[j] = sums_in(weight, list, j);
     }
     s
 }
@@ -101,8 +103,8 @@ fn moved(s: Sums, goes: Sums, comes: Sums) -> Sums
 // The one place that alters sums: the list of course c has become another, and the sums of the terms that it had or has are
 // altered by its weight and by one. All sixteen go the same way, with no branch.
 pub fn changed(s: [Sums; Year::TERMS], c: Course, list: u16) -> [Sums; Year::TERMS]
-    requires weight_bound { c.weight.0 ≤ 1000 }
-    requires by_index { (k : ℕ) → k < 16 → Within (sums_in s k) (part_of c k) }
+    requires light { c.weight.0 ≤ 1000 }
+    requires counted { (k : ℕ) → k < 16 → Within (sums_in s k) (part_of c k) }
     ensures { result ≡ tab 16 (changed_at s c list) }
 {
     let d = pairs::course_of(c.weight.0, list);

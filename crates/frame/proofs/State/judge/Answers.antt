@@ -8,8 +8,8 @@ list_after-after-requires-clause-is_listed c =
     let a = c.args in
     is_listed (year_in a.self.now) a.self.now.sound a.i a.j c.requires.in_range.0 c.requires.in_range.1 a.v c.requires.only_open c.course_in-c.result c.course_in-c.ensures
 
-pub changed-self-requires-clause-by_index : goal.changed-self-requires-clause-by_index
-changed-self-requires-clause-by_index c =
+pub changed-self-requires-clause-counted : goal.changed-self-requires-clause-counted
+changed-self-requires-clause-counted c =
     let a = c.args in
     sums_ask (year_in a.self.now) a.self.now.sound a.i a.j c.requires.in_range.0 c.requires.in_range.1 a.v c.requires.only_open c.course_in-c.result c.course_in-c.ensures
 

@@ -13,7 +13,7 @@ passed c = sym c.is_sound_but_sums.ensures ∙ c.if-is_sound_but_sums.true
 pub with_sums-requires : goal.with_sums-requires
 with_sums-requires c =
     let s = summed_sound c.args.self (passed c) in
-    record { terms_bound = (s.terms_most, s.courses_most); by_index = λ i h. ((s.course_sound i h).weight_most, (s.course_sound i h).list_within) }
+    record { sizes = (s.terms_most, s.courses_most); each_course = λ i h. ((s.course_sound i h).weight_most, (s.course_sound i h).list_within) }
 
 pub returns-then-is_sound_but_sums : goal.returns-then-is_sound_but_sums
 unfolding summed_of

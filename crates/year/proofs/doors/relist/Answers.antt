@@ -4,8 +4,8 @@ use lib.ListN.{set}
 use Rattle.year.proofs.ChangeLaws.{change_asks, change_gives}
 use Rattle.year.proofs.doors.relist.Goals as goal
 
-pub changed-y-requires-clause-by_index : goal.changed-y-requires-clause-by_index
-changed-y-requires-clause-by_index c = (change_asks c.args.y.now c.requires.sound c.args.i c.requires.course_there c.course_of-c.result c.course_of-c.ensures).1
+pub changed-y-requires-clause-counted : goal.changed-y-requires-clause-counted
+changed-y-requires-clause-counted c = (change_asks c.args.y.now c.requires.sound c.args.i c.requires.course_there c.course_of-c.result c.course_of-c.ensures).1
 
 pub returns : goal.returns
 returns c =

@@ -30,9 +30,9 @@ moved-requires c =
     let a = b.args in
     let k = l.loop-k.k in
     let m : k < 16 = omega arith in record {
-      goes_within = subst (Within (sums_in a.s k)) (sym p.part_of.ensures) (b.requires.by_index k m);
+      goes_within = subst (Within (sums_in a.s k)) (sym p.part_of.ensures) (b.requires.counted k m);
       comes_small = subst (λ (u : Sums). (u.fixed.0 ≤ 1000) × (u.possible.0 ≤ 1000) × (u.placed.0 ≤ 1) × (u.free.0 ≤ 1)) (sym c.part_of-in-loop-k.ensures)
-          (part_small o.course_of-d.result k (rw o.course_of-d.ensures b.requires.weight_bound));
+          (part_small o.course_of-d.result k (rw o.course_of-d.ensures b.requires.light));
     }
 
 pub bounds-r-k : goal.bounds-r-k
