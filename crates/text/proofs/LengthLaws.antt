@@ -12,7 +12,7 @@ use Rattle.theory.specs.Choice.{choose}
 use Rattle.theory.specs.Sum.{sum, pick}
 use Rattle.text.specs.Text.{ten_of, places_of, decimal_of, numbered_of, numbers_of, row_of, line_of, terms_to, commas_of, terms_of}
 use Rattle.theory.proofs.SumLaws.{pick_le}
-use Rattle.text.specs.Page.{comma_of}
+use Rattle.text.specs.Put.{comma_of}
 use Rattle.text.proofs.TextLaws.{some_of, commas_append}
 
 -- ---- numbers

@@ -1,4 +1,5 @@
 -- Laws about texts.
 pub mod TextLaws
+pub mod PutLaws
 pub mod LengthLaws
 pub mod DigitLaws

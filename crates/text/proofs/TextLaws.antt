@@ -10,7 +10,8 @@ use lib.Seq.{take-length, take-suc}
 use Rattle.theory.specs.Bits.{has}
 use Rattle.theory.specs.Choice.{choose}
 use Rattle.text.specs.Text.{comma, decimal_of, numbered_of, numbers_of, terms_to, commas_of}
-use Rattle.text.specs.Page.{Room, comma_of, piece_of}
+use Rattle.text.specs.Put.{comma_of, piece_of}
+use Rattle.text.specs.Page.{Room}
 
 -- ---- texts behind a page's text d
 
@@ -29,7 +30,7 @@ room d s t p h = omega (arith, length-append s t, length-append d s, ap length p
 -- ---- a text that grows piece by piece, as in a loop: text k, and piece k behind it, for each k below n
 
 module _ (text piece : ℕ → List ℕ) (n : ℕ) (more : (k : ℕ) → k < n → text (k + 1) ≡ text k ++ piece k) where
-  grows : (left k : ℕ) → k + left ≡ n → length (text k) ≤ length (text n)
+  pub grows : (left k : ℕ) → k + left ≡ n → length (text k) ≤ length (text n)
   grows zero k e = let q : k ≡ n = omega arith in omega (arith, ap (λ (i : ℕ). length (text i)) q)
   grows (suc left) k e =
       omega (arith, grows left (k + 1) (omega arith), ap length (more k (omega arith)), length-append (text k) (piece k))
