@@ -1,9 +1,11 @@
 -- What a narrowing is refused by, and what it gives by that.
 use Prim.Native.Nat.{ℕ, ◌<◌}
 use mathlib.Core.Bool.{Bool, true, false}
+use mathlib.Core.List.{[], ◌∷◌}
 use mathlib.Core.Path.{◌≡◌, refl, ap, ◌∙◌}
 use native.Mathlib.Omega.{arith}
 use lib.Dec.{leb}
+use types.Run.{OneOf, miss}
 use borrow.Author.Tests.{leb-false}
 use Rattle.std.specs.Prelude.{Option, Some, None, Result, Ok, Err}
 use Rattle.theory.specs.Choice.{choose}
@@ -67,6 +69,10 @@ module _ (y : Year) (missing outside : Bool) where
   -- a refusal is due: it is given, beside the year as it was
   pub due_refused : (r : NarrowingRefusal) → Err r ≡ due → (n : Narrowed) → answered (Err r) y ≡ checked y missing outside n
   due_refused r e n = stopped y (is_sound y) missing outside r n e
+
+-- no refusal's key is the key of done, where done and the four refusals are the cases of one enum
+pub no_refusal : OneOf (1 ∷ 2 ∷ 3 ∷ 4 ∷ []) 0 → ⊥
+no_refusal h = miss (1 ∷ 2 ∷ 3 ∷ 4 ∷ []) 0 tt h
 
 -- ---- a narrowing that names course i and term j
 

@@ -24,10 +24,10 @@ struct ShortCredits(u16);
 #[derive(Clone, Copy)]
 struct ShortCourses(u16);
 
-// The sums of term j over the courses of two columns, with no branch in the loop.
+// The sums of term j over the courses of two columns, as many as there are weights, with no branch in the loop.
 fn sums_in(weight: &[u32], list: &[u16], j: usize) -> Sums
     requires few { length weight.now ≤ 64 }
-    requires one_length { length list.now ≡ length weight.now }
+    requires lists_there { length weight.now ≤ length list.now }
     requires term_there { j < 16 }
     requires light { (i : ℕ) → i < length weight.now → get_or weight.now i 0 ≤ 1000 }
     ensures { result ≡ sums_to weight.now list.now (length weight.now) j }
@@ -54,10 +54,11 @@ fn sums_in(weight: &[u32], list: &[u16], j: usize) -> Sums
     }
 }
 
-// The sums of sixteen entries over the courses of two columns, which list none but the first m terms: those of the others are 0.
+// The sums of sixteen entries over the courses of two columns, as many as there are weights, which list none but the first m terms:
+// those of the others are 0.
 pub fn sums_over(weight: &[u32], list: &[u16], m: usize) -> [Sums; Year::TERMS]
     requires few { length weight.now ≤ 64 }
-    requires one_length { length list.now ≡ length weight.now }
+    requires lists_there { length weight.now ≤ length list.now }
     requires terms_there { m ≤ 16 }
     requires courses_sized { (i : ℕ) → i < length weight.now → (get_or weight.now i 0 ≤ 1000) × (get_or list.now i 0 < 2 ^ m) }
     ensures { result ≡ tab 16 (sums_to weight.now list.now (length weight.now)) }

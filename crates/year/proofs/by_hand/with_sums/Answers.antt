@@ -16,7 +16,7 @@ sums_over-sums-requires c =
     let q : y.courses ≤ length y.list = search rules in
     record {
       few = omega (arith, length-take-le y.courses y.weight p, c.requires.sizes.1);
-      one_length = cut_alike y.weight y.list y.courses p q;
+      lists_there = omega (arith, cut_alike y.weight y.list y.courses p q);
       terms_there = c.requires.sizes.0;
       courses_sized = cut_sized y.weight y.list y.courses p q y.terms c.requires.each_course;
     }

@@ -30,7 +30,7 @@ sums_over-requires c =
     let q : y.courses ≤ length y.list = omega (arith, s) in
     record {
       few = omega (arith, length-take-le y.courses y.weight p, s.courses_most);
-      one_length = cut_alike y.weight y.list y.courses p q;
+      lists_there = omega (arith, cut_alike y.weight y.list y.courses p q);
       terms_there = s.terms_most;
       courses_sized = cut_sized y.weight y.list y.courses p q y.terms (λ i h. ((s.course_sound i h).weight_most, (s.course_sound i h).list_within));
     }

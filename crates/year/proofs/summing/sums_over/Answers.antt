@@ -15,7 +15,7 @@ unfolding fill
 loop-j-init c = search rules
 
 pub sums_in-requires : goal.sums_in-requires
-sums_in-requires c = record { few = c.requires.few; one_length = c.requires.one_length; term_there = omega arith; light = λ i h. (c.requires.courses_sized i h).0 }
+sums_in-requires c = record { few = c.requires.few; lists_there = c.requires.lists_there; term_there = omega arith; light = λ i h. (c.requires.courses_sized i h).0 }
 
 pub bounds-s-j : goal.bounds-s-j
 bounds-s-j c =
