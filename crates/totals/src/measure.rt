@@ -62,6 +62,7 @@ fn difference(terms: usize, l: Loads) -> u64
 }
 
 // The imbalance of a sound year as it stands.
+#[tactic(auto, using(year::proofs::ImbalanceLaws::imbalance_open, year::proofs::ImbalanceLaws::imbalance_unfit))]
 pub fn imbalance_sound(y: &SoundYear) -> Result<u64, ImbalanceRefusal>
     ensures { result ≡ imbalance_of y.now.year }
 {

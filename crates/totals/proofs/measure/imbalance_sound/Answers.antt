@@ -1,4 +1,4 @@
--- Refusal 14 twice: for a course with several terms, and for a term outside its bounds. Past both the terms have all credits.
+-- Past both refusals the terms have all credits. The refusals themselves are found by the laws that the function names.
 use mathlib.Core.Path.{◌≡◌, sym, ap, ◌∙◌}
 use native.Mathlib.Omega.{arith}
 use Rattle.std.specs.Prelude.{Ok}
@@ -7,16 +7,8 @@ use Rattle.theory.proofs.PairLaws.{squares_most, square_least}
 use Rattle.year.specs.Sums.{fixed_credits, all_credits}
 use Rattle.year.proofs.SumLaws.{all_credits_le}
 use Rattle.year.proofs.OnePlacing.{placed_total}
-use Rattle.year.proofs.ImbalanceLaws.{imbalance_open, imbalance_unfit, imbalance_given}
+use Rattle.year.proofs.ImbalanceLaws.{imbalance_given}
 use Rattle.totals.proofs.measure.imbalance_sound.Goals as goal
-use Rattle.totals.proofs.measure.imbalance_sound.Goals.{then-not-all_placed-via-then-not-all_placed, then-not-all_placed-via-else-not-all_placed+then-not-all_fit}
-
-pub returns-then-not-all_placed : goal.returns-then-not-all_placed
-returns-then-not-all_placed c =
-    elim c.then-not-all_placed.branch [
-      | then-not-all_placed-via-then-not-all_placed w ↦ sym (imbalance_open c.args.y.now.year c.args.y.now.sound (sym c.all_placed.ensures ∙ w.if-not-all_placed.true))
-      | then-not-all_placed-via-else-not-all_placed+then-not-all_fit w ↦ sym (imbalance_unfit c.args.y.now.year c.args.y.now.sound (sym c.all_placed.ensures ∙ w.if-not-all_placed.false) (sym w.all_fit.ensures ∙ w.if-not-all_fit.true))
-    ]
 
 pub difference-requires : goal.difference-requires
 difference-requires c =
