@@ -108,6 +108,7 @@ pub fn within<A: Amount>(t: Term, a: A, b: A) -> Result<Option<Term>, Crossed>
 }
 
 // The bound on one side moved to v, where that is tighter.
+#[tactic(auto, using(crate::proofs::BoundLaws::within_raise, crate::proofs::BoundLaws::within_lower))]
 pub fn tighten<A: Amount>(side: Side, t: Term, v: A) -> Result<Option<Term>, Crossed>
     ensures { result ≡ moved_of (tightened side A.quantity t (A.number v)) }
 {
