@@ -15,7 +15,7 @@ use year::{Crossed, SoundYear, Sums, Term, Year};
 
 // A sound year on its way through the rules, and whether something was altered. It owns all but the weights, which never change.
 // Its fields are read where they stand, and written by its methods alone. No rule has found that it has no plan.
-#[derive(Drop)]
+#[derive(Clone, Copy)]
 pub struct State<'a> {
     pub terms: usize,
     pub courses: usize,
