@@ -1,11 +1,14 @@
 -- A rule over the terms of a state, as a loop of code goes through them: what is known of the state z at term j, and what a turn
 -- leaves. The recipe is at the head of `StateLaws`; callers cite `terms_at`, `narrower_at`, `sums_at_lem`, `turn` and `stop`.
 use Prim.Native.Nat.{ℕ, ◌+◌, ◌<◌}
+use mathlib.Core.Bool.{Bool, true, false}
 use mathlib.Core.Path.{◌≡◌, refl, sym, ap, subst, ◌∙◌}
 use native.Mathlib.Omega.{arith}
+use lib.Dec.{eqb}
 use lib.ListN.{get_or}
+use borrow.Author.Tests.{eqb-true}
 use Rattle.std.specs.Prelude.{Result, Err}
-use Rattle.theory.proofs.FoldLaws.{fold_more, fold_stopped}
+use Rattle.theory.proofs.FoldLaws.{fold_more, fold_stopped, fold_none}
 use Rattle.year.specs.Sums.{sums_at, no_sums}
 use Rattle.year.specs.declared.Year.{Year}
 use Rattle.year.proofs.SumLaws.{sums_read}
@@ -19,7 +22,19 @@ use Rattle.frame.specs.State.{year_in, step_in, step_of}
 use Rattle.frame.specs.declared.State.{State}
 use Rattle.frame.proofs.StateLaws.{dead_of}
 
--- z is the state at term j, from s on
+-- ---- where no plan was found
+
+module _ (rule : Year → ℕ → Step) (s : Step) where
+  -- where none is found up to term j, none was before the first
+  pub went_on : (j : ℕ) → (over_to rule s j).rule ≡ 0 → s.rule ≡ 0
+  went_on j e = go (eqb s.rule 0) refl
+    where
+      go : (b : Bool) → eqb s.rule 0 ≡ b → s.rule ≡ 0
+      go true q = eqb-true s.rule 0 q
+      go false q = ap (λ (x : Step). x.rule) (sym (fold_none goes (then rule) s q j)) ∙ e
+
+-- ---- z is the state at term j, from s on
+
 module _ (rule : Year → ℕ → Step) (s : State) (j : ℕ) (h : j < s.terms) (z : State) (inv : step_in z ≡ over_to rule (step_in s) j) where
   -- ---- what is known of it, of a rule that narrows
 
