@@ -24,7 +24,7 @@ use Rattle.rules.proofs.Narrows.{narrower_self, narrower_then, credits_same}
 use Rattle.rules.proofs.Passes.{narrows_round}
 use Rattle.orders.specs.Orders.{orders_in, orders_of}
 use Rattle.orders.specs.declared.Orders.{Orders}
-use Rattle.orders.proofs.OrderLaws.{weights_of, orders_are, orders_weights}
+use Rattle.orders.proofs.OrderLaws.{weights_of, cut_orders_are, orders_weights}
 use Rattle.filter.specs.Filter.{filtered, at_rest, rounds_from}
 use Rattle.filter.specs.declared.Answer.TheVariants.{NoPlan}
 use Rattle.filter.proofs.RoundLaws.{rounds_left, round_no_plan, round_at_rest, round_alters, round_falls}
@@ -39,7 +39,7 @@ in_order_still y z (Some p) c w e = e ∙ sym (orders_weights y z c w)
 in_order_still y z None c w e = tt
 
 pub in_order_at : (y : Year) → Sound y → (o : Option Orders) → InOrder y o → IfSome o (λ p. p ≡ orders_in (weights_of y) (length (weights_of y)))
-in_order_at y s (Some p) e = e ∙ sym (orders_are y s)
+in_order_at y s (Some p) e = e ∙ sym (cut_orders_are y s)
 in_order_at y s None e = tt
 
 -- after n rounds, each of which altered something: what is left to do from the year at hand gives what the whole filtering

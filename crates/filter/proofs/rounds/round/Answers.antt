@@ -11,7 +11,7 @@ use Rattle.rules.specs.Round.{passes_of}
 use Rattle.rules.specs.Narrower.{Narrower}
 use Rattle.rules.proofs.Narrows.{narrower_self}
 use Rattle.rules.proofs.Passes.{row_narrower, lawful_part}
-use Rattle.orders.proofs.OrderLaws.{orders_are, orders_weights, weights_fit}
+use Rattle.orders.proofs.OrderLaws.{cut_orders_are, orders_weights, cut_weights_fit}
 use Rattle.filter.specs.Halves.{first_half, second_half}
 use Rattle.filter.proofs.RoundLaws.{halves}
 use Rattle.filter.proofs.BeforeRound.{in_order_still, in_order_at}
@@ -44,14 +44,14 @@ orders_kept-o-requires c =
     let n = between a in
     let z = year_in a.first_half.new.s in
     let sound = a.first_half.new.s.sound in
-    let f = weights_fit z sound in
+    let f = cut_weights_fit z sound in
     let i = in_order_still (year_in b.args.s.now) z b.args.kept.now n.courses_same n.weight_same b.requires.in_order in
     record { few = f.few; light = f.light; in_order = in_order_at z sound b.args.kept.now i }
 
 pub second_half-requires : goal.second_half-requires
 second_half-requires c =
     let a = (goal.at.second_half-requires c).In_ok-first_half in
-    record { in_order = c.orders_kept-o.ensures.value ∙ orders_are (year_in a.first_half.new.s) a.first_half.new.s.sound }
+    record { in_order = c.orders_kept-o.ensures.value ∙ cut_orders_are (year_in a.first_half.new.s) a.first_half.new.s.sound }
 
 pub returns-clause-step : goal.returns-clause-step
 returns-clause-step c =
@@ -63,4 +63,4 @@ returns-clause-in_order c =
     let a = (goal.at.returns-clause-in_order c).In_ok-first_half in
     let b = (goal.at.returns-clause-in_order c).Start in
     let n = between a in
-    rw c.orders_kept-o.ensures.in_order (orders_are (year_in a.first_half.new.s) a.first_half.new.s.sound ∙ orders_weights (year_in b.args.s.now) (year_in a.first_half.new.s) n.courses_same n.weight_same)
+    rw c.orders_kept-o.ensures.in_order (cut_orders_are (year_in a.first_half.new.s) a.first_half.new.s.sound ∙ orders_weights (year_in b.args.s.now) (year_in a.first_half.new.s) n.courses_same n.weight_same)
