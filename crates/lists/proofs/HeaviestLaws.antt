@@ -1,14 +1,14 @@
 -- The heaviest open course of each term: a course more, and what it bounds.
 use Prim.Native.Nat.{ℕ, zero, suc, ◌+◌, ◌-◌, ◌^◌, ◌≤◌, ◌<◌, max}
-use mathlib.Core.Bool.{Bool, true, false, not, true≢false}
+use mathlib.Core.Bool.{Bool, true, false, not, ◌&&◌, true≢false}
 use mathlib.Core.List.{List}
 use mathlib.Core.Path.{◌≡◌, refl, sym, ap, ◌∙◌}
 use native.Mathlib.Numerals.{add-one}
 use native.Mathlib.Decide.{ℕ_discrete}
 use native.Mathlib.Omega.{arith}
-use lib.Dec.{eqb}
+use lib.Dec.{eqb, ltb}
 use lib.ListN.{get_or}
-use borrow.Author.Tests.{eq-eqb, ne_eqb}
+use borrow.Author.Tests.{ltb-true, ltb-false, eq-eqb, ne_eqb}
 use Rattle.theory.specs.Sum.{pick}
 use Rattle.theory.proofs.SumLaws.{pick_le}
 use Rattle.theory.proofs.TestLaws.{and_true, and_of}
@@ -24,6 +24,14 @@ use Rattle.year.specs.declared.Year.{Year}
 use Rattle.rules.specs.Step.{Step}
 use Rattle.rules.proofs.Narrows.{Narrows}
 use Rattle.lists.specs.Heaviest.{heaviest_to, heaviest_in, heaviest_with}
+
+pub larger_first : (b : Bool) (heaviest w : ℕ) → b && ltb heaviest w ≡ true → w ≡ max heaviest (pick b w)
+larger_first true heaviest w e = omega (arith, ltb-true heaviest w e)
+larger_first false heaviest w e = absurd (let z : ◌≡◌ {A = Bool} false true = e in let n : ◌≡◌ {A = ℕ} 0 1 = cc in omega arith)
+
+pub larger_second : (b : Bool) (heaviest w : ℕ) → b && ltb heaviest w ≡ false → heaviest ≡ max heaviest (pick b w)
+larger_second true heaviest w e = omega (arith, ltb-false heaviest w e)
+larger_second false heaviest w e = omega arith
 
 module _ (w l : List ℕ) where
   heaviest_more : (n j : ℕ) → heaviest_to w l (n + 1) j ≡ max (heaviest_to w l n j) (open_weight w l j n)

@@ -20,6 +20,10 @@ use Rattle.rules.specs.declared.Verdict.TheVariants.{Stays}
 use Rattle.lists.specs.TermVerdict.{course_judged, term_verdict3, term_verdict10, term_judged}
 use Rattle.lists.specs.declared.TermVerdict.TheVariants.{ByCredits, Full, NeedsAll}
 
+-- a step is its parts
+pub step_is : {s t : Step} → s.year ≡ t.year → s.altered ≡ t.altered → s.rule ≡ t.rule → s ≡ t
+step_is p q r = λ i. record { year = p i; altered = q i; rule = r i }
+
 -- ---- rules 3 and 10 at a term, under its verdict
 
 -- where no course has a verdict nothing is done

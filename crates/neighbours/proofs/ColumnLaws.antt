@@ -247,6 +247,9 @@ module _ (weight list : List ℕ) (n : ℕ) (c : Columns weight list n) where
         place_is : at p i ≡ r
         place_is = ap (at p) (sym is) ∙ g.places r within
 
+        pub place_few : at p i < 64
+        place_few = omega (arith, place_is, within, set_few)
+
         pub some_open : 0 < count
         some_open = omega (arith, g.counted, within)
 

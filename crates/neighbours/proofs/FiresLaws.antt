@@ -7,10 +7,11 @@ use mathlib.Core.Path.{◌≡◌, refl, ap, ap₂, ◌∙◌}
 use native.Mathlib.Nat.{add-zero}
 use native.Mathlib.Decide.{dec_lt}
 use native.Mathlib.Omega.{arith}
-use lib.Dec.{leb, ltb}
-use borrow.Author.Tests.{leb-true, ltb-true, le-leb, lt-ltb}
+use lib.Dec.{leb, ltb, eqb}
+use lib.ListN.{length, get_or}
+use borrow.Author.Tests.{leb-true, ltb-true, eqb-false, le-leb, lt-ltb}
 use Rattle.theory.specs.Tests.{any}
-use Rattle.theory.proofs.TestLaws.{and_true, and_of, any_more, any_false, any_none}
+use Rattle.theory.proofs.TestLaws.{and_true, and_of, or_false, any_more, any_false, any_none}
 use Rattle.neighbours.specs.Lightest.{Rising, neighbours_by, fires_by, left_out, Lent}
 
 -- ---- tests
@@ -61,6 +62,9 @@ module _ {n : ℕ} {q : ℕ → ℕ} (r : Rising n q) where
 -- ---- out of an array
 
 module _ {u : List ℕ} {n out w : ℕ} (r : Lent u n out w) where
+  pub readable : (t : ℕ) → t ≤ n → (t < length u) × (out < t → (t + 1 < length u) × (w ≤ get_or u (t + 1) 0))
+  readable t h = (omega (arith, r.long), λ m. (omega (arith, r.longer (omega arith)), r.covers t m h))
+
   pub within : (s t : ℕ) → s ≤ t → t ≤ n → (left_out u out w s ≤ left_out u out w t) × (left_out u out w t ≤ 64000)
   within s t l h = (rises r.rising s t l h, omega (arith, rises r.rising t n h (omega arith), r.small))
 
@@ -154,6 +158,9 @@ pub near_heaviest :
 near_heaviest {n} {q} r a b k' l h i m o = no_gap r a b i l (omega (arith, one_is_most r i o, rises r k' i m (omega arith)))
 
 -- ---- the tests of the code
+
+pub some_are : (n a : ℕ) → eqb n 0 || eqb a 0 ≡ false → 0 < n
+some_are n a e = omega (arith, eqb-false n 0 (or_false (eqb n 0) (eqb a 0) e).0)
 
 -- nothing is lighter than 0
 pub none_below_0 : (n : ℕ) (q : ℕ → ℕ) (a b : ℕ) → (n ≡ 0) ⊎ (a ≡ 0) → fires_by q n a b ≡ false

@@ -4,7 +4,7 @@ use mathlib.Core.Bool.{Bool, true, false}
 use mathlib.Core.List.{List, [], ◌∷◌, ◌++◌, append-nil}
 use mathlib.Core.Path.{◌≡◌, refl, sym, ap, ap₂, ◌∙◌, subst}
 use native.Mathlib.Numerals.{add-one}
-use native.Mathlib.Decide.{dec_lt}
+use native.Mathlib.Decide.{ℕ_discrete, dec_lt}
 use native.Mathlib.Omega.{arith}
 use lib.ListN.{length, get_or, take, set, length-set, length-append, get_or-append}
 use lib.Seq.{get_or-set_same, get_or-set_other, get_or-take, get_or-append_seam, take-suc, take-length, take-append-le, length-take-le}
@@ -16,6 +16,17 @@ use Rattle.neighbours.specs.Lightest.{upto, Rising, Calm}
 use Rattle.neighbours.specs.Opened.{at, open_in, opened, Ordered, Gathers}
 use Rattle.neighbours.proofs.SetLaws.{weigh_append}
 use Rattle.neighbours.proofs.FiresLaws.{rises}
+
+-- ---- from the last place downwards
+
+-- one place before those that fail
+pub none_from : (test : ℕ → Bool) (order : List ℕ) (n k : ℕ) → ((t : ℕ) → k ≤ t → t < n → test (at order t) ≡ false) → test (at order (k - 1)) ≡ false
+    → (t : ℕ) → k - 1 ≤ t → t < n → test (at order t) ≡ false
+none_from test order n k none this t h l = go (ℕ_discrete t (k - 1))
+  where
+    go : Dec (t ≡ k - 1) → test (at order t) ≡ false
+    go (yes e) = ap (λ x. test (at order x)) e ∙ this
+    go (no d) = none t (omega (arith, d)) l
 
 -- ---- what is kept of a list
 
@@ -194,6 +205,18 @@ module _ (weight list order : List ℕ) (n j k : ℕ) (o : Ordered weight list o
         subst (λ x. Gathers (at weight) x (c + m) u' p') (sym is) (subst (λ x. Gathers (at weight) before x u' p') (sym same) passed)
 
 -- ---- sums that rise
+
+-- the first, and one more, that does not exceed what all before it weigh but the heaviest of those by more than s
+pub first : (q : ℕ → ℕ) (k : ℕ) {s : ℕ} → k ≡ 0 → q 1 ≤ s → q (k + 1) ≤ s + q (k - 1) + q k
+first q k e h = omega (arith, ap (λ x. q (x + 1)) e)
+
+pub flat_more : (q : ℕ → ℕ) (s t : ℕ) → ((k : ℕ) → k < t → q (k + 1) ≤ s + q (k - 1) + q k) → q (t + 1) ≤ s + q (t - 1) + q t
+    → (k : ℕ) → k < t + 1 → q (k + 1) ≤ s + q (k - 1) + q k
+flat_more q s t flat this k l = go (ℕ_discrete k t)
+  where
+    go : Dec (k ≡ t) → q (k + 1) ≤ s + q (k - 1) + q k
+    go (yes e) = rw e this
+    go (no d) = flat k (omega (arith, d))
 
 module _ (n : ℕ) (q : ℕ → ℕ) (rising : Rising n q) (s b : ℕ) where
   -- the heaviest, which is the last, is no more than b

@@ -14,6 +14,16 @@ abbrev pub Below : (ℕ → ℕ) → ℕ → ℕ → ℕ → ℕ → ℕ → ℕ
 Below q n m s l e a b j = (k : ℕ) → k < j → k + s < n → q m - q (m - k) + l < a → b < q (s + (k + 1)) - q s + e → ⊥
 
 module _ (q : ℕ → ℕ) (n m s l e a b : ℕ) where
+  pub one_more : (j : ℕ) → Below q n m s l e a b j → q (s + (j + 1)) - q s + e ≤ b → Below q n m s l e a b (j + 1)
+  one_more j none this k h i lo hi = go (ℕ_discrete k j)
+    where
+      go : Dec (k ≡ j) → ⊥
+      go (yes d) = reach k d hi
+        where
+          reach : (k : ℕ) → k ≡ j → b < q (s + (k + 1)) - q s + e → ⊥
+          reach k d hi = omega (arith, rw d at hi)
+      go (no d) = none k (omega (arith, d)) i lo hi
+
   -- from a k on at which the heaviest reach the range
   pub none_on : Rising n q → m ≤ n → n ≤ m + s + 1 → (j : ℕ) → Below q n m s l e a b j → a ≤ q m - q (m - j) + l → NoneReach q n m s l e a b
   none_on r few fits j none high k i lo hi = go (dec_lt k j)
@@ -21,6 +31,10 @@ module _ (q : ℕ → ℕ) (n m s l e a b : ℕ) where
       go : Dec (k < j) → ⊥
       go (yes d) = none k d i lo hi
       go (no d) = omega (arith, rises r (m - k) (m - j) (omega (arith, d)) (omega arith))
+
+  -- where there are no more
+  pub none_left : (j : ℕ) → Below q n m s l e a b j → n ≤ j + s → NoneReach q n m s l e a b
+  none_left j none last k i lo hi = none k (omega arith) i lo hi
 
 -- ---- all k'
 

@@ -7,11 +7,11 @@ use native.Mathlib.Decide.{dec_lt, ℕ_discrete}
 use native.Mathlib.Omega.{arith}
 use lib.Dec.{leb, ltb}
 use lib.ListN.{length, get_or}
-use borrow.Author.Tests.{lt-ltb, le-ltb, le-leb, lt-leb}
+use borrow.Author.Tests.{lt-ltb, le-ltb, ltb-true, le-leb, lt-leb, leb-true}
 use Rattle.theory.specs.Sum.{pick, sum}
 use Rattle.theory.proofs.SumLaws.{sum_more, sum_cong, sum_behind, sum_front}
 use Rattle.theory.specs.Tests.{any}
-use Rattle.theory.proofs.TestLaws.{and_of, any_none, any_false, any_of, or_left, or_right}
+use Rattle.theory.proofs.TestLaws.{and_true, and_of, any_none, any_false, any_of, or_left, or_right}
 use Rattle.theory.specs.Packing.{share}
 use Rattle.theory.proofs.PackingLaws.{share_small, share_mid}
 use Rattle.theory.proofs.ThresholdLaws.{thresholds_that_occur}
@@ -34,6 +34,15 @@ module _ (a b : List ℕ) (c limit : ℕ) where
 
   pub not_tried : (t : ℕ) → c / 2 < t → tried a b c limit t ≡ false
   not_tried t l = ap (λ e. e && over a b c limit t) (lt-leb t (c / 2) l)
+
+-- the test whether a size is to be tried
+pub new_size : (last t h : ℕ) → ltb last t && leb t h ≡ true → (last < t) × (t ≤ h)
+new_size last t h e =
+    let a = and_true (ltb last t) (leb t h) e in
+    (ltb-true last t a.0, leb-true t h a.1)
+
+pub old_size : (last t h : ℕ) → ltb last t && leb t h ≡ false → last < t → t ≤ h → ⊥
+old_size last t h e l m = true≢false (sym (and_of (ltb last t) (leb t h) (lt-ltb last t l) (le-leb t h m)) ∙ e)
 
 -- ---- all thresholds that occur
 
