@@ -13,14 +13,16 @@ ghost use Rattle.filter.specs.Filter.{filter_of};
 ghost use Rattle.boundary.specs.Calls.{read_code, filter_code, filter_out, narrow_code, narrow_out, imbalance_code, join_code, join_out};
 
 use filter::Filtered;
+use records::Received;
 use year::SoundYear;
 
 // Reads a list.
 pub fn turfsteeple_read(list: &[u8]) -> u64
     ensures { result ≡ read_code list.now }
 {
-    match records::read(list) {
-        Ok(_) => codes::DONE,
+    let Received { answer, .. } = records::read(list);
+    match answer {
+        Ok(()) => codes::DONE,
         Err(refusal) => codes::refused(refusal),
     }
 }
@@ -52,9 +54,10 @@ pub fn turfsteeple_narrow(list: &[u8], kind: u32, a: u32, b: u32, out: &mut [u8]
     ensures value { result ≡ narrow_code list.now kind a b (length out.old) }
     ensures out_after { out.new ≡ narrow_out list.now kind a b out.old }
 {
-    match records::read(list) {
-        Ok(_) if out.len() < list.len() => codes::SHORT,
-        Ok(year) => into::narrow_into(year, kind, a, b, out),
+    let Received { answer, year } = records::read(list);
+    match answer {
+        Ok(()) if out.len() < list.len() => codes::SHORT,
+        Ok(()) => into::narrow_into(year, kind, a, b, out),
         Err(refusal) => codes::refused(refusal),
     }
 }

@@ -197,7 +197,7 @@ module _ (t h : List ℕ) where
 joined_refused : (y : Year) (q : JoiningRefusal) → ◌≡◌ {A = Result Year JoiningRefusal} (Err q) (Ok y) → ⊥
 joined_refused y q e = cc
 
--- what bears the number 0 is a year, and what bears another is a refusal, which holds no year
+-- what bears the number 0 is a year, and what bears another is a refusal
 pub is_joined : (r : Result Year JoiningRefusal) → joining_number r ≡ 0 → r ≡ Ok (year_joined r)
 is_joined (Ok y) e = refl
 is_joined (Err (InTerms r)) e = absurd (fault_some r.fault e)

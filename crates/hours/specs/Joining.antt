@@ -8,6 +8,7 @@ use Rattle.records.specs.declared.Fault.TheVariants as fault
 use Rattle.records.specs.declared.Refusal.{Refusal}
 use Rattle.hours.specs.declared.JoiningRefusal.{JoiningRefusal}
 use Rattle.hours.specs.declared.JoiningRefusal.TheVariants.{InTerms, InHours}
+use Rattle.hours.specs.declared.Joined.{Joined}
 use Rattle.hours.specs.Entries.{hours_record, term_alone}
 
 -- ---- the list of terms
@@ -52,7 +53,11 @@ behind_terms (Err r) s = Err (InTerms r)
 unfoldable pub join_of : List ℕ → List ℕ → Result Year JoiningRefusal
 join_of t h = behind_terms (term_list t) h
 
--- the year of a joining; a refused one hands out none, and the empty year stands for it
+-- what `join` gives back of a joining: its year, or its refusal and beside it the empty year
+abbrev pub given_back : Result Year JoiningRefusal → Joined
+given_back (Ok y) = record { answer = Ok tt; year = y }
+given_back (Err r) = record { answer = Err r; year = empty_year }
+
+-- the year that `join` gives back: what is said of it is said of the code
 abbrev pub year_joined : Result Year JoiningRefusal → Year
-year_joined (Ok y) = y
-year_joined (Err r) = empty_year
+year_joined r = (given_back r).year

@@ -6,7 +6,7 @@ mod lists;
 
 ghost use Rattle.std.specs.Prelude.{◌≡◌};
 ghost use Rattle.year.specs.SoundYear.{answer_inside};
-ghost use Rattle.hours.specs.Joining.{join_of};
+ghost use Rattle.hours.specs.Joining.{join_of, given_back};
 
 use records::Refusal;
 use year::{SoundYear, Year};
@@ -29,6 +29,13 @@ pub enum JoiningRefusal {
     InHours(Refusal),
 }
 
+// What a joining gives back: the answer, and the year, which beside a refusal is the one of one term, all bounds 0, no course.
+#[derive(Clone, Copy)]
+pub struct Joined {
+    pub answer: Result<(), JoiningRefusal>,
+    pub year: Year,
+}
+
 // The letter that an hours record starts with, "H", and the bytes of the longest hours list.
 pub const LETTER: u8 = 72;
 
@@ -42,9 +49,18 @@ pub fn join_sound(terms: &[u8], hours: &[u8]) -> Result<SoundYear, JoiningRefusa
     lists::read_hours(front, hours).map_err(JoiningRefusal::InHours)
 }
 
-// The same as a plain year.
-pub fn join(terms: &[u8], hours: &[u8]) -> Result<Year, JoiningRefusal>
-    ensures { result ≡ join_of terms.now hours.now }
+// The same with a plain year, which is there beside a refusal too.
+pub fn join(terms: &[u8], hours: &[u8]) -> Joined
+    ensures { result ≡ given_back (join_of terms.now hours.now) }
 {
-    Ok(join_sound(terms, hours)?.year)
+    match join_sound(terms, hours) {
+        Ok(joined) => Joined {
+            answer: Ok(()),
+            year: joined.year,
+        },
+        Err(refusal) => Joined {
+            answer: Err(refusal),
+            year: Year::empty(),
+        },
+    }
 }

@@ -20,7 +20,7 @@ use Rattle.records.proofs.ReadWrite.{read_write}
 use Rattle.records.proofs.WriteRead.{write_read}
 use Rattle.hours.specs.Numbers.{edition_number, joining_number, joining_list, joining_place}
 use Rattle.hours.specs.Entries.{weight_by}
-use Rattle.hours.specs.Joining.{term_list, join_of, year_joined}
+use Rattle.hours.specs.Joining.{term_list, join_of, given_back, year_joined}
 use Rattle.hours.specs.declared.Edition.{Edition}
 use Rattle.hours.specs.declared.Edition.TheVariants.{First, Second}
 use Rattle.hours.specs.declared.JoiningRefusal.{JoiningRefusal}
@@ -37,8 +37,10 @@ pub joined_sound : (t h : List ℕ) → joining_number (join_of t h) ≡ 0 → S
 joined_sound t h e = (joint t h (year_joined (join_of t h)) (is_joined (join_of t h) e)).sound
 
 pub join_refused : (t h : List ℕ) → (joining_number (join_of t h) ≡ 0 → ⊥)
-    → (year_joined (join_of t h) ≡ empty_year) × (r : JoiningRefusal) × (join_of t h ≡ Err r)
-join_refused t h n = let r = is_unjoined (join_of t h) n in (ap year_joined r.1, r.0, r.1)
+    → (year_joined (join_of t h) ≡ empty_year) × (r : JoiningRefusal) × (join_of t h ≡ Err r) × ((given_back (join_of t h)).answer ≡ Err r)
+join_refused t h n =
+    let r = is_unjoined (join_of t h) n in
+    (ap year_joined r.1, r.0, r.1, ap (λ (x : Result Year JoiningRefusal). (given_back x).answer) r.1)
 
 -- ---- the year
 

@@ -1,4 +1,4 @@
--- What a write leaves of a lent buffer; and that a refused reading hands out no year.
+-- What a write leaves of a lent buffer; and what a refused reading hands back.
 use Prim.Native.Nat.{ℕ}
 use mathlib.Core.Bool.{Bool, true, false}
 use mathlib.Core.List.{List}
@@ -7,12 +7,12 @@ use native.Mathlib.Omega.{arith}
 use lib.Dec.{leb}
 use lib.ListN.{length, take, drop}
 use lib.Seq.{take-append_seam, drop-append_seam}
-use Rattle.std.specs.Prelude.{Err}
+use Rattle.std.specs.Prelude.{Result, Err}
 use Rattle.year.specs.Doors.{empty_year}
 use Rattle.year.specs.Sound.{is_sound}
 use Rattle.year.specs.declared.Year.{Year}
 use Rattle.records.specs.Numbers.{reading_number, writing_number}
-use Rattle.records.specs.Reading.{read_list, year_read}
+use Rattle.records.specs.Reading.{read_list, received, year_read}
 use Rattle.records.specs.Writing.{records_of, write_answer, written}
 use Rattle.records.specs.declared.Refusal.{Refusal}
 use Rattle.records.proofs.GatherLaws.{is_refused}
@@ -48,7 +48,9 @@ wrote y b = go (is_sound y) (leb (length (records_of y)) (length b)) refl refl
 
 -- ---- readings
 
--- a refused reading hands out no year, and for it stands the year of one term, all bounds 0, no course
+-- a refused reading hands back the year of one term, all bounds 0, no course
 pub read_refused : (s : List ℕ) → (reading_number (read_list s) ≡ 0 → ⊥)
-    → (year_read (read_list s) ≡ empty_year) × (r : Refusal) × (read_list s ≡ Err r)
-read_refused s n = let r = is_refused (read_list s) n in (ap year_read r.1, r.0, r.1)
+    → (year_read (read_list s) ≡ empty_year) × (r : Refusal) × (read_list s ≡ Err r) × ((received (read_list s)).answer ≡ Err r)
+read_refused s n =
+    let r = is_refused (read_list s) n in
+    (ap year_read r.1, r.0, r.1, ap (λ (x : Result Year Refusal). (received x).answer) r.1)

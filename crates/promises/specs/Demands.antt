@@ -8,11 +8,11 @@ use Rattle.year.specs.Numbers.{narrowing_number}
 use Rattle.year.specs.declared.Year.{Year}
 use Rattle.records.specs.Bytes.{AllBytes}
 use Rattle.records.specs.Numbers.{reading_number, writing_number}
-use Rattle.records.specs.Reading.{read_list, year_read, done}
+use Rattle.records.specs.Reading.{read_list, received, year_read, done}
 use Rattle.records.specs.Writing.{records_of, write_answer, written}
 use Rattle.records.specs.declared.Refusal.{Refusal}
 use Rattle.hours.specs.Numbers.{joining_number}
-use Rattle.hours.specs.Joining.{join_of, year_joined}
+use Rattle.hours.specs.Joining.{join_of, given_back, year_joined}
 use Rattle.hours.specs.declared.JoiningRefusal.{JoiningRefusal}
 use Rattle.rules.specs.Narrower.{Narrower}
 use Rattle.filter.specs.Filter.{filter_of}
@@ -46,11 +46,14 @@ pub record Demand1 : Type 0 where
   pub imbalance_due : ImbalanceDue
   pub listing_due : ListingDue
   pub codes_due : CodesDue
-  -- handed back unaltered, and nothing written; a refused list gives a refusal, which holds no year (the empty one stands for it)
+  -- handed back unaltered, and nothing written; of a refused list, or two that do not join, the year handed back is the empty one, and the
+  -- answer beside it an Err
   pub refused_reading : (bytes : List ℕ) → (reading_number (read_list bytes) ≡ 0 → ⊥)
-      → (year_read (read_list bytes) ≡ empty_year) × (r : Refusal) × (read_list bytes ≡ Err r)
+      → (year_read (read_list bytes) ≡ empty_year)
+      × (r : Refusal) × (read_list bytes ≡ Err r) × ((received (read_list bytes)).answer ≡ Err r)
   pub refused_joining : (t h : List ℕ) → (joining_number (join_of t h) ≡ 0 → ⊥)
-      → (year_joined (join_of t h) ≡ empty_year) × (r : JoiningRefusal) × (join_of t h ≡ Err r)
+      → (year_joined (join_of t h) ≡ empty_year)
+      × (r : JoiningRefusal) × (join_of t h ≡ Err r) × ((given_back (join_of t h)).answer ≡ Err r)
   pub refused_narrowing : (n : Narrow) (y : Year) → (narrowing_number (narrow n y).answer ≡ 0 → ⊥) → (narrow n y).year ≡ y
   pub refused_filtering : (y : Year) → (filter_number (filter_of y).answer ≡ 0 → ⊥) → (filter_of y).year ≡ y
   pub refused_writing : (y : Year) (buffer : List ℕ) → (writing_number (write_answer y (length buffer)) ≡ 0 → ⊥) → written y buffer ≡ buffer

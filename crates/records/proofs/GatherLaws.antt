@@ -21,8 +21,9 @@ use Rattle.year.specs.declared.Year.{Year}
 use Rattle.records.specs.declared.Fault.{Fault}
 use Rattle.records.specs.declared.Fault.TheVariants as fault
 use Rattle.records.specs.declared.Refusal.{Refusal}
+use Rattle.records.specs.declared.Received.{Received}
 use Rattle.records.specs.Numbers.{fault_number, reading_number}
-use Rattle.records.specs.Reading.{Record, OfTerm, OfCourse, Faulty, blank_year, add_term, add_course, done, refusal, refused, taken, onward, gathered, summed, year_read}
+use Rattle.records.specs.Reading.{Record, OfTerm, OfCourse, Faulty, blank_year, add_term, add_course, done, refusal, refused, taken, onward, gathered, summed, received, year_read}
 
 -- ---- done, or refused
 
@@ -46,7 +47,7 @@ fault_some fault.Order e = omega arith
 fault_some fault.List e = omega arith
 fault_some fault.Padding e = omega arith
 
--- what bears the number 0 is a year, and what bears another is a refusal, which holds no year
+-- what bears the number 0 is a year, and what bears another is a refusal
 pub is_done : (r : Result Year Refusal) → reading_number r ≡ 0 → r ≡ done (year_read r)
 is_done (Ok y) e = refl
 is_done (Err r) e = absurd (fault_some r.fault e)
@@ -57,6 +58,28 @@ is_refused (Err q) n = (q, refl)
 
 pub refused_numbered : (r : Result Year Refusal) (q : Refusal) → r ≡ Err q → reading_number r ≡ 0 → ⊥
 refused_numbered r q e z = fault_some q.fault (sym (ap reading_number e) ∙ z)
+
+ok_refused : (q : Refusal) → ◌≡◌ {A = Result (Unit {0}) Refusal} (Ok tt) (Err q) → ⊥
+ok_refused q e = cc
+
+-- what was handed back of a reading r, by its answer
+module _ (r : Result Year Refusal) (got : Received) (is : got ≡ received r) where
+  pub received_done : got.answer ≡ Ok tt → r ≡ done got.year
+  received_done e = go r is
+    where
+      go : (r : Result Year Refusal) → got ≡ received r → r ≡ done got.year
+      go (Ok y) p = ap done (sym (ap (λ (x : Received). x.year) p))
+      go (Err q) p = absurd (ok_refused q (sym e ∙ ap (λ (x : Received). x.answer) p))
+
+  pub received_refused : (q : Refusal) → got.answer ≡ Err q → r ≡ Err q
+  received_refused q e = go r is
+    where
+      go : (r : Result Year Refusal) → got ≡ received r → r ≡ Err q
+      go (Ok y) p = absurd (ok_refused q (sym (ap (λ (x : Received). x.answer) p) ∙ e))
+      go (Err f) p =
+          let i : ◌≡◌ {A = Result (Unit {0}) Refusal} (Err f) (Err q) = sym (ap (λ (x : Received). x.answer) p) ∙ e in
+          let k : f ≡ q = cc in
+          ap Err k
 
 module _ (entry : ℕ → Year → Record) (start : Year) where
   -- ---- the records one by one

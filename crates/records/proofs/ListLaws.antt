@@ -76,7 +76,7 @@ list_read s y e =
     let g = length_good (length s) d.0 in
     (g.0, g.1, w.0, d.1, w.2)
 
--- a list that is refused gives a refusal, which holds no year
+-- a list that is refused gives a refusal
 pub list_refused : (s : List ℕ) → (reading_number (read_list s) ≡ 0 → ⊥) ↔ ((r : Refusal) × (read_list s ≡ Err r))
 list_refused s = (is_refused (read_list s), λ (r, e). refused_numbered (read_list s) r e)
 

@@ -10,6 +10,7 @@ use Rattle.year.specs.declared.Year.{Year}
 use Rattle.records.specs.declared.Fault.{Fault}
 use Rattle.records.specs.declared.Fault.TheVariants as fault
 use Rattle.records.specs.declared.Refusal.{Refusal}
+use Rattle.records.specs.declared.Received.{Received}
 use Rattle.records.specs.Bytes.{letter_at, byte_at, word_at, blank_from}
 
 -- ---- one record
@@ -158,7 +159,11 @@ summed r = onward r (λ y. done (with_sums y))
 unfoldable pub read_list : List ℕ → Result Year Refusal
 read_list s = summed (choose (bad_length (length s)) (refused fault.Length 0) (read_to s (length s / 16)))
 
--- the year of a reading; a refused one hands out none, and the empty year stands for it
+-- what `read` hands back of a reading: its year, or its refusal and beside it the empty year
+abbrev pub received : Result Year Refusal → Received
+received (Ok y) = record { answer = Ok tt; year = y }
+received (Err r) = record { answer = Err r; year = empty_year }
+
+-- the year that `read` hands back: what is said of it is said of the code
 abbrev pub year_read : Result Year Refusal → Year
-year_read (Ok y) = y
-year_read (Err r) = empty_year
+year_read r = (received r).year

@@ -9,7 +9,7 @@ ghost use Rattle.std.specs.Prelude.{◌≡◌, ℕ, ◌+◌, ◌*◌, ◌^◌, �
 ghost use Rattle.year.specs.Doors.{with_sums};
 ghost use Rattle.year.specs.SoundYear.{answer_inside};
 ghost use Rattle.records.specs.Numbers.{fault_number};
-ghost use Rattle.records.specs.Reading.{blank_year, add_term, add_course, refusal, bad_length, read_list};
+ghost use Rattle.records.specs.Reading.{blank_year, add_term, add_course, refusal, bad_length, read_list, received};
 ghost use Rattle.records.specs.Writing.{write_answer, written};
 
 use year::{Course, SoundYear, Term, Year, summing};
@@ -31,6 +31,13 @@ pub enum Fault {
 pub struct Refusal {
     pub fault: Fault,
     pub record: usize,
+}
+
+// What a reading hands back: the answer, and the year, which beside a refusal is the one of one term, all bounds 0, no course.
+#[derive(Clone, Copy)]
+pub struct Received {
+    pub answer: Result<(), Refusal>,
+    pub year: Year,
 }
 
 // Why a year was not written: refusals 8 and 9.
@@ -146,11 +153,20 @@ pub fn read_sound(list: &[u8]) -> Result<SoundYear, Refusal>
     Ok(SoundYear { year: y })
 }
 
-// The same as a plain year.
-pub fn read(list: &[u8]) -> Result<Year, Refusal>
-    ensures { result ≡ read_list list.now }
+// The same with a plain year, which is there beside a refusal too.
+pub fn read(list: &[u8]) -> Received
+    ensures { result ≡ received (read_list list.now) }
 {
-    Ok(read_sound(list)?.year)
+    match read_sound(list) {
+        Ok(read) => Received {
+            answer: Ok(()),
+            year: read.year,
+        },
+        Err(refusal) => Received {
+            answer: Err(refusal),
+            year: Year::empty(),
+        },
+    }
 }
 
 // Writes the records of a year that is known to be sound into the front of a buffer that is known to have room for them.
