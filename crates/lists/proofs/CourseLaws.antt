@@ -1,18 +1,21 @@
 -- The courses of a term, one after the other: what the steps leave alone, and what the code makes of a course.
-use Prim.Native.Nat.{ℕ, ◌+◌, ◌≤◌, ◌<◌}
-use mathlib.Core.Bool.{Bool, true, false}
-use mathlib.Core.Path.{◌≡◌, refl, sym, ap, ◌∙◌}
+use Prim.Native.Nat.{ℕ, zero, suc, ◌+◌, ◌≤◌, ◌<◌}
+use mathlib.Core.Bool.{Bool, true, false, ◌||◌}
+use mathlib.Core.Path.{◌≡◌, refl, sym, ap, ◌∙◌, subst}
 use native.Mathlib.Omega.{arith}
 use lib.ListN.{get_or}
-use Rattle.year.specs.Year.{zero_term, term_at, course_at, weight, is_open}
+use Rattle.theory.specs.Fold.{fold}
+use Rattle.year.specs.Year.{zero_term, course_of, term_at, course_at, weight, is_open}
+use Rattle.year.specs.Doors.{with_list}
 use Rattle.year.specs.Sums.{fixed_credits, possible_credits, sums_in, sums_at}
 use Rattle.year.specs.Sound.{Sound}
 use Rattle.year.specs.declared.Course.{Course}
 use Rattle.year.specs.declared.Sums.{Sums}
 use Rattle.year.specs.declared.Term.{Term}
 use Rattle.year.specs.declared.Year.{Year}
+use Rattle.year.proofs.DoorLaws.{list_other}
 use Rattle.year.proofs.SumLaws.{possible_le, all_credits_le, sums_read}
-use Rattle.rules.specs.Step.{goes, then, live, judged, next, over_to, Step, joined}
+use Rattle.rules.specs.Step.{goes, then, step, live, judged, next, over_to, Step, joined}
 use Rattle.theory.proofs.FoldLaws.{fold_more}
 use Rattle.rules.specs.Lists.{verdict3, verdict10}
 use Rattle.rules.specs.declared.Verdict.{Verdict}
@@ -53,6 +56,39 @@ pub lawful : (w : TermVerdict) (terms courses j : ℕ) → j < terms → Lawful 
 unfolding course_judged
 lawful w terms courses j l z i s t c h =
     judged_narrows z i j _ s (omega arith) (omega arith) (verdict_stays w (course_at z i) (term_at z j) (fixed_credits z j) (possible_credits z j) j)
+
+-- ---- the first n courses
+
+judged_turn : (w : TermVerdict) (j : ℕ) (s : Step) (i : ℕ) (v : Verdict) → s.rule ≡ 0 → verdict_at w j s.year i ≡ v → next (course_judged w j) s i ≡ joined s (judged s.year i j v)
+unfolding course_judged
+judged_turn w j s i v r e = rw (r, e)
+
+-- no plan is never found, no term is altered, nor a course from n on
+pub record Onward (y : Year) (n : ℕ) (s : Step) : Type 0 where
+  pub goes_on : s.rule ≡ 0
+  pub term_same : s.year.term ≡ y.term
+  pub course_same : (i : ℕ) → n ≤ i → course_at s.year i ≡ course_at y i
+
+-- course n with another list
+onward_listed : (y : Year) (n l : ℕ) (s : Step) → Onward y n s → Onward y (suc n) (step (with_list s.year n l) (s.altered || true) 0)
+onward_listed y n l s o = record {
+  goes_on = refl;
+  term_same = o.term_same;
+  course_same = λ i h. ap (course_of (weight s.year i)) (list_other s.year n l i (λ q. absurd (omega arith))) ∙ o.course_same i (omega arith);
+}
+
+onward_judged : (y : Year) (n j : ℕ) (s : Step) (v : Verdict) → Onward y n s → Onward y (suc n) (joined s (judged s.year n j v))
+onward_judged y n j s Stays o = record { goes_on = refl; term_same = o.term_same; course_same = λ i h. o.course_same i (omega arith) }
+onward_judged y n j s Struck o = onward_listed y n _ s o
+onward_judged y n j s Fixed o = onward_listed y n _ s o
+
+pub onward : (w : TermVerdict) (j : ℕ) (y : Year) (n : ℕ) → Onward y n (over_to (course_judged w j) (live y) n)
+unfolding fold
+onward w j y zero = record { goes_on = refl; term_same = refl; course_same = λ i h. refl }
+onward w j y (suc n) =
+    let s = over_to (course_judged w j) (live y) n in
+    let o = onward w j y n in
+    subst (Onward y (suc n)) (sym (judged_turn w j s n _ o.goes_on refl)) (onward_judged y n j s (verdict_at w j s.year n) o)
 
 -- ---- a turn of the code's loop: z is the state when course i is come to, from s on, and it has the bounds of s
 
