@@ -1,8 +1,8 @@
 -- A rule on bounds over the terms, told of the bounds alone: what a loop on the terms' bounds would leave, turn by turn, how it goes on
 -- and ends, and that the definition over years leaves the same bounds (`bounds_over_lem`). The code goes without such a loop: it alters
--- the bounds of a state. What ties it to the definition over years is the contract of each function that runs a rule on bounds over the
--- terms (`over_own_sums` and `over_other_terms` of `bounds`, `walk_rule` of `walks`), `step_of s.new result ≡ over_terms rule (step_in s.old)`.
--- It is proved turn by turn, by `turn_told` of `ToldLaws` and by `turn` and `stop` of `TermsAt`.
+-- the bounds of a state. What ties it to the definition over years is the contract of each function that runs a rule on bounds over
+-- the terms, `step_of s.new result ≡ over_terms rule (step_in s.old)`: of `over_own_sums` and `over_other_terms` (`bounds`) and of
+-- `walk_rule` (`walks`). It is proved turn by turn, by `turn_told` of `ToldLaws` and by `turn` and `stop` of `TermsAt`.
 use Prim.Native.Nat.{ℕ, ◌+◌, ◌≤◌, ◌<◌}
 use mathlib.Core.Bool.{Bool, true, false, ◌&&◌, ◌||◌}
 use mathlib.Core.List.{List}

@@ -45,8 +45,8 @@ pub record UnderVerdict (v : Verdict) (i j : ℕ) (c : Course) (z r : Step) : Ty
       → step (stored z.year i x u) true z.rule ≡ r
 
 -- only an open course has a verdict
-module _ (y : Year) (sound : Sound y) (i j : ℕ) (inside : i < y.courses) (v : Verdict) (only-open : (v ≡ Stays → ⊥) → is_open (course_at y i) j ≡ true)
-    (c : Course) (is : c ≡ course_at y i) where
+module _ (y : Year) (sound : Sound y) (i j : ℕ) (inside : i < y.courses) (v : Verdict)
+    (only-open : (v ≡ Stays → ⊥) → is_open (course_at y i) j ≡ true) (c : Course) (is : c ≡ course_at y i) where
   struck_lists : v ≡ Struck → lists (course_at y i) j ≡ true
   struck_lists e = (and_true (lists (course_at y i) j) (not (is_fixed (course_at y i) j)) (only-open (not_struck v e))).0
 
@@ -70,7 +70,8 @@ module _ (y : Year) (sound : Sound y) (i j : ℕ) (inside : i < y.courses) (v : 
   stays_else Fixed o e = absurd (true≢false (sym (o (λ q. let x : Fixed ≡ Stays = q in cc)) ∙ e))
 
   -- what is stored is a sound year, j being one of its terms
-  pub stored_sound : j < y.terms → (v ≡ Stays → ⊥) → (x : ℕ) → x ≡ list_after v c.list j → (u : List Sums) → u ≡ tab 16 (changed_at y.sums c x) → Sound (stored y i x u)
+  pub stored_sound : j < y.terms → (v ≡ Stays → ⊥) → (x : ℕ) → x ≡ list_after v c.list j → (u : List Sums) → u ≡ tab 16 (changed_at y.sums c x)
+      → Sound (stored y i x u)
   stored_sound below d x new u sums =
       subst Sound (sym (ap (λ (s : Step). s.year) ((under_verdict true).alters d x new u sums)))
       (judged_narrows y i j v sound inside below (stays_else v only-open)).year.sound

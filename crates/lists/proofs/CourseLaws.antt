@@ -59,7 +59,8 @@ lawful w terms courses j l z i s t c h =
 
 -- ---- the first n courses
 
-judged_turn : (w : TermVerdict) (j : ℕ) (s : Step) (i : ℕ) (v : Verdict) → s.rule ≡ 0 → verdict_at w j s.year i ≡ v → next (course_judged w j) s i ≡ joined s (judged s.year i j v)
+judged_turn : (w : TermVerdict) (j : ℕ) (s : Step) (i : ℕ) (v : Verdict) → s.rule ≡ 0 → verdict_at w j s.year i ≡ v
+    → next (course_judged w j) s i ≡ joined s (judged s.year i j v)
 unfolding course_judged
 judged_turn w j s i v r e = rw (r, e)
 
